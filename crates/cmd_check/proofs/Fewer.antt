@@ -24,7 +24,9 @@ still_in (z ∷ xs) zero (suc j) x y at there differs = record { place = j; at =
 still_in (z ∷ xs) (suc k) zero x y at there differs = record { place = 0; at = there }
 still_in (z ∷ xs) (suc k) (suc j) x y at there differs = let more = still_in xs k j x y at there differs in record { place = suc more.place; at = more.at }
 
-few_among : (path all : List ℕ) → ((k x : ℕ) → slice_get path k ≡ Some x → IsIn all x) → ((i j x y : ℕ) → i < j → slice_get path i ≡ Some x → slice_get path j ≡ Some y → x ≢ y) → length path ≤ length all
+few_among : (path all : List ℕ) → ((k x : ℕ) → slice_get path k ≡ Some x → IsIn all x)
+    → ((i j x y : ℕ) → i < j → slice_get path i ≡ Some x → slice_get path j ≡ Some y → x ≢ y)
+    → length path ≤ length all
 few_among [] all stand differ = omega arith
 few_among (x ∷ path) all stand differ =
     let own = stand 0 x refl in
@@ -34,7 +36,8 @@ few_among (x ∷ path) all stand differ =
     let less = one_less all own.place x own.at in
     omega (arith, more, less)
 
-pub few_below : (path : List ℕ) (count : ℕ) → ((k x : ℕ) → slice_get path k ≡ Some x → x < count) → ((i j x y : ℕ) → i < j → slice_get path i ≡ Some x → slice_get path j ≡ Some y → x ≢ y) → length path ≤ count
+pub few_below : (path : List ℕ) (count : ℕ) → ((k x : ℕ) → slice_get path k ≡ Some x → x < count)
+    → ((i j x y : ℕ) → i < j → slice_get path i ≡ Some x → slice_get path j ≡ Some y → x ≢ y) → length path ≤ count
 few_below path count there differ =
     let few = few_among path (numbers_from 0 count) (λ k x at. let e : 0 + x ≡ x = omega arith in record { place = x; at = number_at 0 count x (there k x at) ∙ ap (λ (y : ℕ). Some y) e }) differ in
     let size = length_numbers 0 count in

@@ -40,7 +40,8 @@ module _ (diagram : Diagram) (plan : Resolved) (timing : Timing) where
     are = record { names_are = refl; blocks_are = refl; tight = λ k output at. only k output at };
     text_is = is;
   } where
-    only : (k : ℕ) (output : Output) → slice_get (record { name = name; block = block; path = path } ∷ []) k ≡ Some output → IsTightPath (latency_arcs diagram plan timing.fed) timing.lat output.block output.path
+    only : (k : ℕ) (output : Output) → slice_get (record { name = name; block = block; path = path } ∷ []) k
+        ≡ Some output → IsTightPath (latency_arcs diagram plan timing.fed) timing.lat output.block output.path
     only zero output at = subst (λ (o : Output). IsTightPath (latency_arcs diagram plan timing.fed) timing.lat o.block o.path) (same_Some _ output at) tight
     only (suc k) output at = absurd (none-some output at)
 
@@ -51,14 +52,20 @@ module _ (diagram : Diagram) (plan : Resolved) (timing : Timing) where
     text_is = is;
   }
 
-  pub outputs_more : (names : List (List ℕ)) (blocks : List ℕ) (k : ℕ) (name d : List ℕ) (block e : ℕ) (old text new : List ℕ) → AddsOutputs diagram plan timing names blocks k old text → k < length blocks → length names ≡ length blocks
+  pub outputs_more : (names : List (List ℕ)) (blocks : List ℕ) (k : ℕ) (name d : List ℕ) (block e : ℕ)
+      (old text new : List ℕ) → AddsOutputs diagram plan timing names blocks k old text → k < length blocks
+      → length names ≡ length blocks
       → name ≡ slice_index_or names k d → block ≡ slice_index_or blocks k e → AddsOutput diagram plan timing name block text new → AddsOutputs diagram plan timing names blocks (k + 1) old new
   outputs_more names blocks k name d block e old text new adds below size name_is block_is one = record {
     outputs = adds.outputs ++ one.output ∷ [];
     are = record {
-      names_are = map-append (λ output. output.name) adds.outputs (one.output ∷ []) ∙ ap (λ (ns : List (List ℕ)). ns ++ one.output.name ∷ []) adds.are.names_are ∙ ap (λ (ns : List (List ℕ)). take k names ++ ns) one.are.names_are
+      names_are = map-append (λ output. output.name) adds.outputs (one.output ∷ [])
+          ∙ ap (λ (ns : List (List ℕ)). ns ++ one.output.name ∷ []) adds.are.names_are
+          ∙ ap (λ (ns : List (List ℕ)). take k names ++ ns) one.are.names_are
           ∙ take_next names k d name (omega (arith, below, size)) name_is;
-      blocks_are = map-append (λ output. output.block) adds.outputs (one.output ∷ []) ∙ ap (λ (bs : List ℕ). bs ++ one.output.block ∷ []) adds.are.blocks_are ∙ ap (λ (bs : List ℕ). take k blocks ++ bs) one.are.blocks_are
+      blocks_are = map-append (λ output. output.block) adds.outputs (one.output ∷ [])
+          ∙ ap (λ (bs : List ℕ). bs ++ one.output.block ∷ []) adds.are.blocks_are
+          ∙ ap (λ (bs : List ℕ). take k blocks ++ bs) one.are.blocks_are
           ∙ take_next blocks k e block below block_is;
       tight = λ j output at. elim (own_or_last adds.outputs one.output j output at) [
         | inl before ↦ adds.are.tight j output before
@@ -69,7 +76,9 @@ module _ (diagram : Diagram) (plan : Resolved) (timing : Timing) where
   }
 
   -- the line, piece by piece
-  pub output_is : (name path : List ℕ) (block clocks : ℕ) → clocks ≡ clocks_at diagram plan timing block → (head_text name clocks ++ steps_text diagram path) ++ codes "\n" ≡ output_line diagram plan timing (record { name = name; block = block; path = path })
+  pub output_is : (name path : List ℕ) (block clocks : ℕ) → clocks ≡ clocks_at diagram plan timing block
+      → (head_text name clocks ++ steps_text diagram path) ++ codes "\n"
+      ≡ output_line diagram plan timing (record { name = name; block = block; path = path })
   unfolding output_line
   output_is name path block clocks clocks_is = ap (λ (n : ℕ). (head_text name n ++ steps_text diagram path) ++ codes "\n") clocks_is
 
@@ -82,12 +91,15 @@ module _ (diagram : Diagram) (plan : Resolved) (timing : Timing) where
     }
 
     pub puts_more : (names : List (List ℕ)) (blocks : List ℕ) (k : ℕ) (name d : List ℕ) (block e : ℕ) (old mid new : K) (waited middle waits : Pending)
-        → PutsOutputs diagram plan timing names blocks k taken faults old waited mid middle → k < length blocks → length names ≡ length blocks → name ≡ slice_index_or names k d → block ≡ slice_index_or blocks k e
+        → PutsOutputs diagram plan timing names blocks k taken faults old waited mid middle → k < length blocks
+        → length names ≡ length blocks → name ≡ slice_index_or names k d → block ≡ slice_index_or blocks k e
         → PutsOutput diagram plan timing name block taken faults mid middle new waits → PutsOutputs diagram plan timing names blocks (k + 1) taken faults old waited new waits
     puts_more names blocks k name d block e old mid new waited middle waits before below size name_is block_is one = record {
       bytes = before.bytes ++ one.bytes;
       lines = λ earlier.
           subst (λ (text : List ℕ). AddsOutputs diagram plan timing names blocks (k + 1) earlier text) (append_assoc earlier before.bytes one.bytes)
-          (outputs_more names blocks k name d block e earlier (earlier ++ before.bytes) ((earlier ++ before.bytes) ++ one.bytes) (before.lines earlier) below size name_is block_is (one.line (earlier ++ before.bytes)));
+          (outputs_more names blocks k name d block e earlier (earlier ++ before.bytes)
+          ((earlier ++ before.bytes) ++ one.bytes) (before.lines earlier) below size name_is block_is
+          (one.line (earlier ++ before.bytes)));
       puts = both before.puts one.puts;
     }

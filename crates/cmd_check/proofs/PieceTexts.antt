@@ -37,7 +37,9 @@ num_is signed width shown frac front digits front_is width_is digits_is =
     ∙ ap (λ (n : ℕ). ((named (num_front signed) n ++ codes ",") ++ digits) ++ codes ")") width_is
     ∙ ap (λ (xs : List ℕ). ((named (num_front signed) width ++ codes ",") ++ xs) ++ codes ")") digits_is
 
-pub port_is : (diagram : Diagram) (place port : ℕ) (own : FxType) (width shown : ℕ) → own ≡ (attributes_of diagram).type_at place port → width ≡ (attributes_of diagram).width_at place port → shown ≡ width
+pub port_is : (diagram : Diagram) (place port : ℕ) (own : FxType) (width shown : ℕ)
+    → own ≡ (attributes_of diagram).type_at place port → width ≡ (attributes_of diagram).width_at place port
+    → shown ≡ width
     → type_text own ++ named (codes " ") shown ≡ port_text diagram place port
 unfolding port_text
 port_is diagram place port own width shown own_is width_is same =
@@ -54,7 +56,9 @@ pub begun_is : (path : List ℕ) (period : Option ℕ) (latency : ℕ) → ((cod
 unfolding begun_block
 begun_is path period latency = refl
 
-pub block_is : (diagram : Diagram) (timing : Timing) (place : ℕ) (block : Block) (period : Option ℕ) (latency : ℕ) → slice_get diagram.blocks place ≡ Some block → period ≡ (attributes_of diagram).period_at place → latency ≡ latency_at timing.lat place
+pub block_is : (diagram : Diagram) (timing : Timing) (place : ℕ) (block : Block) (period : Option ℕ) (latency : ℕ)
+    → slice_get diagram.blocks place ≡ Some block → period ≡ (attributes_of diagram).period_at place
+    → latency ≡ latency_at timing.lat place
     → (begun_block block.path period latency ++ ports_text diagram place block.outputs) ++ codes "\n" ≡ block_line diagram timing place
 unfolding block_line
 block_is diagram timing place block period latency at period_is latency_is =
@@ -87,7 +91,9 @@ quoted_append [] ys = refl
 quoted_append (x ∷ xs) ys = ap (λ (rest : List ℕ). quoted_byte x ++ rest) (quoted_append xs ys) ∙ sym (append_assoc (quoted_byte x) (flat_map quoted_byte xs) (flat_map quoted_byte ys))
 
 -- a front of what is left
-pub quoted_more : (name rest : List ℕ) (done count : ℕ) → rest ≡ drop done name → flat_map quoted_byte (take done name) ++ flat_map quoted_byte (take count rest) ≡ flat_map quoted_byte (take (done + count) name)
+pub quoted_more : (name rest : List ℕ) (done count : ℕ) → rest ≡ drop done name
+    → flat_map quoted_byte (take done name) ++ flat_map quoted_byte (take count rest)
+    ≡ flat_map quoted_byte (take (done + count) name)
 quoted_more name rest done count is =
     ap (λ (xs : List ℕ). flat_map quoted_byte (take done name) ++ flat_map quoted_byte (take count xs)) is
     ∙ sym (quoted_append (take done name) (take count (drop done name)))

@@ -54,14 +54,18 @@ get_behind [] ys k past = let e : k ≡ k - 0 = omega arith in ap (slice_get ys)
 get_behind (x ∷ xs) ys zero past = absurd (omega (arith, past))
 get_behind (x ∷ xs) ys (suc k) past = let e : k - length xs ≡ suc k - suc (length xs) = omega arith in get_behind xs ys k (omega (arith, past)) ∙ ap (slice_get ys) e
 
-pub control_source : (diagram : Diagram) (block number source : ℕ) (b : Block) → slice_get diagram.blocks block ≡ Some b → slice_get diagram.edges number ≡ None → ((control : ℕ) → b.enable ≡ Some control → source ≡ control) → IsSource diagram block number source
+pub control_source : (diagram : Diagram) (block number source : ℕ) (b : Block)
+    → slice_get diagram.blocks block ≡ Some b → slice_get diagram.edges number ≡ None
+    → ((control : ℕ) → b.enable ≡ Some control → source ≡ control) → IsSource diagram block number source
 control_source diagram block number source b b_at none enables = record {
   is = λ edge edge_at to. elim (cases_lt number (length (map signal_edge diagram.edges))) [
     | inl less ↦
         let found = map_there signal_edge diagram.edges number edge (sym (get_front (map signal_edge diagram.edges) (enable_edges_from 0 diagram.blocks) number less) ∙ edge_at) in
         absurd (none-some found.0 (sym none ∙ found.1))
     | inr past ↦
-        let more = enabling diagram.blocks 0 (number - length (map signal_edge diagram.edges)) edge (sym (get_behind (map signal_edge diagram.edges) (enable_edges_from 0 diagram.blocks) number past) ∙ edge_at) in
+        let more = enabling diagram.blocks 0 (number - length (map signal_edge diagram.edges)) edge
+        (sym (get_behind (map signal_edge diagram.edges) (enable_edges_from 0 diagram.blocks) number past)
+        ∙ edge_at) in
         let to_is = more.to_is in
         let place : more.place ≡ block = omega (arith, to_is, to) in
         let same : more.block ≡ b = same_Some more.block b (sym more.at ∙ ap (slice_get diagram.blocks) place ∙ b_at) in
@@ -81,16 +85,22 @@ line_source diagram block number line at = record {
 
 -- ---- their arcs
 
-ends_into : (from to : ℕ) (fed : Bool) (stages period own : ℕ) (found : Option Block) → ((arc_into from to fed stages period own found).from ≡ from) × ((arc_into from to fed stages period own found).to ≡ to)
+ends_into : (from to : ℕ) (fed : Bool) (stages period own : ℕ) (found : Option Block)
+    → ((arc_into from to fed stages period own found).from ≡ from)
+    × ((arc_into from to fed stages period own found).to ≡ to)
 ends_into from to fed stages period own None = (refl, refl)
 ends_into from to fed stages period own (Some block) = (refl, refl)
 
-ends_from : (diagram : Diagram) (plan : Resolved) (fed : List Bool) (from to : ℕ) (found : Option ℕ) → ((arc_from diagram (attributes_of diagram) plan fed from to found).from ≡ from) × ((arc_from diagram (attributes_of diagram) plan fed from to found).to ≡ to)
+ends_from : (diagram : Diagram) (plan : Resolved) (fed : List Bool) (from to : ℕ) (found : Option ℕ)
+    → ((arc_from diagram (attributes_of diagram) plan fed from to found).from ≡ from)
+    × ((arc_from diagram (attributes_of diagram) plan fed from to found).to ≡ to)
 ends_from diagram plan fed from to None = (refl, refl)
 ends_from diagram plan fed from to (Some period) = ends_into from to _ _ period _ (slice_get diagram.blocks to)
 
 -- the arc of a number into a block leads from the source of the edge
-pub arc_source : (diagram : Diagram) (plan : Resolved) (fed : List Bool) (block number source : ℕ) (arc : Arc) → IsSource diagram block number source → slice_get (latency_arcs diagram plan fed) number ≡ Some arc → arc.to ≡ block → arc.from ≡ source
+pub arc_source : (diagram : Diagram) (plan : Resolved) (fed : List Bool) (block number source : ℕ) (arc : Arc)
+    → IsSource diagram block number source → slice_get (latency_arcs diagram plan fed) number ≡ Some arc
+    → arc.to ≡ block → arc.from ≡ source
 arc_source diagram plan fed block number source arc is at to =
     let edge = map_there (arc_of diagram (attributes_of diagram) plan fed) (latency_edges diagram) number arc at in
     let ends = ends_from diagram plan fed edge.0.from edge.0.to ((attributes_of diagram).period_at edge.0.from) in
@@ -104,15 +114,20 @@ arc_source diagram plan fed block number source arc is at to =
 pub no_line : (diagram own : Diagram) (edges : List Edge) (number : ℕ) → edges ≡ own.edges → own ≡ diagram → length edges ≤ number → slice_get diagram.edges number ≡ None
 no_line diagram own edges number edges_are own_is past = ap (λ (es : List Edge). slice_get es number) (sym (edges_are ∙ ap (λ (d : Diagram). d.edges) own_is)) ∙ slice_get_past edges number past
 
-pub line_found : (diagram own : Diagram) (edges : List Edge) (number : ℕ) (edge : Edge) → edges ≡ own.edges → own ≡ diagram → number < length edges → edge ≡ get_or edges number edge → slice_get diagram.edges number ≡ Some edge
+pub line_found : (diagram own : Diagram) (edges : List Edge) (number : ℕ) (edge : Edge) → edges ≡ own.edges
+    → own ≡ diagram → number < length edges → edge ≡ get_or edges number edge
+    → slice_get diagram.edges number ≡ Some edge
 line_found diagram own edges number edge edges_are own_is inside is =
     ap (λ (es : List Edge). slice_get es number) (sym (edges_are ∙ ap (λ (d : Diagram). d.edges) own_is)) ∙ slice_get-get_or edges number edge inside ∙ ap Some (sym is)
 
-pub control_found : (diagram : Diagram) (block number control : ℕ) (b : Block) → IsChecked diagram → slice_get diagram.blocks block ≡ Some b → slice_get diagram.edges number ≡ None → b.enable ≡ Some control → IsSource diagram block number control × (control < length diagram.blocks)
+pub control_found : (diagram : Diagram) (block number control : ℕ) (b : Block) → IsChecked diagram
+    → slice_get diagram.blocks block ≡ Some b → slice_get diagram.edges number ≡ None → b.enable ≡ Some control
+    → IsSource diagram block number control × (control < length diagram.blocks)
 control_found diagram block number control b checked b_at none is = (
   control_source diagram block number control b b_at none (λ other other_is. same_Some control other (sym is ∙ other_is)),
   control_there diagram block control b checked.wired b_at is,
 )
 
-pub none_found : (diagram : Diagram) (block number : ℕ) (b : Block) → slice_get diagram.blocks block ≡ Some b → slice_get diagram.edges number ≡ None → b.enable ≡ None → IsSource diagram block number block
+pub none_found : (diagram : Diagram) (block number : ℕ) (b : Block) → slice_get diagram.blocks block ≡ Some b
+    → slice_get diagram.edges number ≡ None → b.enable ≡ None → IsSource diagram block number block
 none_found diagram block number b b_at none is = control_source diagram block number block b b_at none (λ other other_is. absurd (none-some other (sym is ∙ other_is)))

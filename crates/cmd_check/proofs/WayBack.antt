@@ -31,19 +31,25 @@ module _ (diagram : Diagram) (plan : Resolved) (latencies : Latencies) (end : �
       omega (arith, low, size, tight)
 
   -- what a list of them says at its block
-  pub tight_at : (block : ℕ) (path : List ℕ) (tights : List (Option ℕ)) (number : Option ℕ) → Follows diagram plan latencies end block path → tights ≡ latencies.tight → slice_index_or tights block None ≡ number
+  pub tight_at : (block : ℕ) (path : List ℕ) (tights : List (Option ℕ)) (number : Option ℕ)
+      → Follows diagram plan latencies end block path → tights ≡ latencies.tight
+      → slice_index_or tights block None ≡ number
       → slice_get latencies.tight block ≡ Some number
   tight_at block path tights number way same is =
       let inside = tight_inside block path way in
       let size = ap (λ (xs : List (Option ℕ)). length xs) same in
       ap (λ (xs : List (Option ℕ)). slice_get xs block) (sym same) ∙ slice_get-get_or tights block None (omega (arith, inside, size)) ∙ ap (λ (o : Option ℕ). Some o) is
 
-  pub follow_more : (block number source : ℕ) (path : List ℕ) → Follows diagram plan latencies end block path → slice_get latencies.tight block ≡ Some (Some number) → IsSource diagram block number source → source < length diagram.blocks → Follows diagram plan latencies end source (source ∷ path)
+  pub follow_more : (block number source : ℕ) (path : List ℕ) → Follows diagram plan latencies end block path
+      → slice_get latencies.tight block ≡ Some (Some number) → IsSource diagram block number source
+      → source < length diagram.blocks → Follows diagram plan latencies end source (source ∷ path)
   follow_more block number source path way at is below tight =
       let some = tight.some block number at in
       let from = arc_source diagram plan latencies.fed block number source some.1.arc is some.1.at some.1.ends in
       let falls = tight.falls block number some.1.arc at some.1.at in
-      way_more arcs latencies.lat (length diagram.blocks) tight.rank end block source path (way tight) some.0 (record { number = number; tight = some.1; begins = from }) (subst (λ (x : ℕ). tight.rank x < tight.rank block) from falls) below
+      way_more arcs latencies.lat (length diagram.blocks) tight.rank end block source path (way tight) some.0
+      (record { number = number; tight = some.1; begins = from })
+      (subst (λ (x : ℕ). tight.rank x < tight.rank block) from falls) below
 
   pub follow_short : (block : ℕ) (path : List ℕ) → Follows diagram plan latencies end block path → length path < 1 + length diagram.blocks
   follow_short block path way = let short = way_short arcs latencies.lat (length diagram.blocks) are.tight.rank end block path (way are.tight) in omega (arith, short)

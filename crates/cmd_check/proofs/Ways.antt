@@ -31,7 +31,9 @@ module _ (arcs : List Arc) (lat : List ℕ) (count : ℕ) (rank : ℕ → ℕ) (
     elsewhere zero block at = subst (λ (x : ℕ). x < count) (same_Some end block at) below
     elsewhere (suc k) block at = absurd (none-some block at)
 
-  pub way_more : (first from : ℕ) (path : List ℕ) → IsWay arcs lat count rank first end path → 0 < latency_at lat first → LeadsTightly arcs lat from first → rank from < rank first → from < count → IsWay arcs lat count rank from end (from ∷ path)
+  pub way_more : (first from : ℕ) (path : List ℕ) → IsWay arcs lat count rank first end path
+      → 0 < latency_at lat first → LeadsTightly arcs lat from first → rank from < rank first → from < count
+      → IsWay arcs lat count rank from end (from ∷ path)
   way_more first from path way late leads falls below = record {
     begins = refl;
     last = suc way.last;
@@ -84,5 +86,6 @@ module _ (arcs : List Arc) (lat : List ℕ) (count : ℕ) (rank : ℕ → ℕ) (
     whole = way.whole;
     there = λ k block at. subst (λ (n : ℕ). block < n) (sym size) (way.there k block at);
     leads = way.leads;
-    different = λ i j d less low. apart first path way i j (slice_index_or path i d) (slice_index_or path j d) less (slice_get-get_or path i d (omega (arith, less, low))) (slice_get-get_or path j d low);
+    different = λ i j d less low. apart first path way i j (slice_index_or path i d) (slice_index_or path j d) less
+        (slice_get-get_or path i d (omega (arith, less, low))) (slice_get-get_or path j d low);
   }

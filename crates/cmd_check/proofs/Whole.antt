@@ -30,38 +30,55 @@ module _ (diagram : Diagram) where
       let outs = root_outputs diagram (attributes_of diagram) in
       let in_size = length-map ins (wanted_of diagram (λ block. (attributes_of diagram).width_at block 1)) in
       let out_size = length-map outs (wanted_of diagram (λ block. width_into diagram (attributes_of diagram) block 1)) in
-      let both = length-append (map (wanted_of diagram (λ block. (attributes_of diagram).width_at block 1)) ins) (map (wanted_of diagram (λ block. width_into diagram (attributes_of diagram) block 1)) outs) in
+      let both = length-append (map (wanted_of diagram (λ block. (attributes_of diagram).width_at block 1)) ins)
+      (map (wanted_of diagram (λ block. width_into diagram (attributes_of diagram) block 1)) outs) in
       omega (arith, in_size, out_size, both)
 
   -- those of outputs are as many as the outputs, and stand behind those of inputs
-  pub few_outputs : (names : List (List ℕ)) (blocks : List ℕ) → length names ≡ length (wanted_names diagram) → AreBlocksOf (root_outputs diagram (attributes_of diagram)) blocks → length names ≡ length (root_inputs diagram (attributes_of diagram)) + length blocks
+  pub few_outputs : (names : List (List ℕ)) (blocks : List ℕ) → length names ≡ length (wanted_names diagram)
+      → AreBlocksOf (root_outputs diagram (attributes_of diagram)) blocks
+      → length names ≡ length (root_inputs diagram (attributes_of diagram)) + length blocks
   few_outputs names blocks size are =
       let wanted = wanted_size in
       let outs = ap (λ (xs : List ℕ). length xs) are ∙ length-map (root_outputs diagram (attributes_of diagram)) (λ e. e.block) in
       omega (arith, size, wanted, outs)
 
   -- the blocks of the outputs are there
-  pub blocks_there : (elements : AreRootElements root_output (λ block. width_into diagram (attributes_of diagram) block 1) diagram (attributes_of diagram) (root_outputs diagram (attributes_of diagram))) (blocks : List ℕ)
+  pub blocks_there : (elements : AreRootElements root_output
+      (λ block. width_into diagram (attributes_of diagram) block 1) diagram (attributes_of diagram)
+      (root_outputs diagram (attributes_of diagram))) (blocks : List ℕ)
       → AreBlocksOf (root_outputs diagram (attributes_of diagram)) blocks → All (λ block. block < length diagram.blocks) blocks
   blocks_there elements blocks are = λ k d within.
-      let found = map_there (λ (e : RootElement). e.block) (root_outputs diagram (attributes_of diagram)) k (slice_index_or blocks k d) (sym (ap (λ (xs : List ℕ). slice_get xs k) are) ∙ slice_get-get_or blocks k d within) in
+      let found = map_there (λ (e : RootElement). e.block) (root_outputs diagram (attributes_of diagram)) k
+      (slice_index_or blocks k d)
+      (sym (ap (λ (xs : List ℕ). slice_get xs k) are) ∙ slice_get-get_or blocks k d within) in
       let of = elements.elements_of k found.0 found.1 in
       subst (λ (x : ℕ). x < length diagram.blocks) found.2 (slice_get_within diagram.blocks found.0.block of.0 of.1)
 
-  pub names_left : (names rest : List (List ℕ)) (blocks : List ℕ) (first : ℕ) → length names ≡ length (wanted_names diagram) → AreBlocksOf (root_outputs diagram (attributes_of diagram)) blocks → first ≡ length names - length blocks → rest ≡ drop first names → length rest ≡ length blocks
+  pub names_left : (names rest : List (List ℕ)) (blocks : List ℕ) (first : ℕ)
+      → length names ≡ length (wanted_names diagram)
+      → AreBlocksOf (root_outputs diagram (attributes_of diagram)) blocks → first ≡ length names - length blocks
+      → rest ≡ drop first names → length rest ≡ length blocks
   names_left names rest blocks first size are first_is rest_is =
       let few = few_outputs names blocks size are in
       let dropped = length-drop first names in
       let same = ap (λ (ns : List (List ℕ)). length ns) rest_is in
       omega (arith, few, first_is, dropped, same)
 
-  pub text_of : (plan : Resolved) (timing : Timing) (names rest : List (List ℕ)) (blocks : List ℕ) (first : ℕ) (before text : List ℕ) → AreNames diagram names → length names ≡ length (wanted_names diagram) → AreBlocksOf (root_outputs diagram (attributes_of diagram)) blocks
-      → first ≡ length names - length blocks → rest ≡ drop first names → before ≡ front_text plan ++ blocks_text diagram timing → AddsOutputs diagram plan timing rest blocks (length blocks) before text → IsCheckText diagram plan timing text
+  pub text_of : (plan : Resolved) (timing : Timing) (names rest : List (List ℕ)) (blocks : List ℕ) (first : ℕ)
+      (before text : List ℕ) → AreNames diagram names → length names ≡ length (wanted_names diagram)
+      → AreBlocksOf (root_outputs diagram (attributes_of diagram)) blocks
+      → first ≡ length names - length blocks → rest ≡ drop first names
+      → before ≡ front_text plan ++ blocks_text diagram timing
+      → AddsOutputs diagram plan timing rest blocks (length blocks) before text
+      → IsCheckText diagram plan timing text
   text_of plan timing names rest blocks first before text named size are first_is rest_is before_is adds =
       let few = few_outputs names blocks size are in
       let left = names_left names rest blocks first size are first_is rest_is in
       let start : first ≡ length (root_inputs diagram (attributes_of diagram)) = omega (arith, few, first_is) in
-      let names_all : take (length blocks) rest ≡ drop (length (root_inputs diagram (attributes_of diagram))) names = take_all (length blocks) rest (omega (arith, left)) ∙ rest_is ∙ ap (λ (n : ℕ). drop n names) start in
+      let names_all : take (length blocks) rest
+      ≡ drop (length (root_inputs diagram (attributes_of diagram))) names =
+      take_all (length blocks) rest (omega (arith, left)) ∙ rest_is ∙ ap (λ (n : ℕ). drop n names) start in
       let blocks_all : take (length blocks) blocks ≡ map (λ e. e.block) (root_outputs diagram (attributes_of diagram)) = take_all (length blocks) blocks (omega arith) ∙ are in
       record {
         names = names;

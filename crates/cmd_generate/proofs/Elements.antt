@@ -65,7 +65,9 @@ module _ (diagram : Diagram) (is : IsChecked diagram) where
   into-small : (block port : ℕ) → width_into diagram A block port ≤ 1024
   into-small block port = go (driver_of diagram block port) refl
     where
-      at : (edge : Edge) (o : Option Block) → slice_get diagram.blocks edge.from ≡ o → MatchOption o ⊥ (λ b. (1 ≤ edge.from_port) × (edge.from_port ≤ b.outputs)) → A.width_at edge.from edge.from_port ≤ 1024
+      at : (edge : Edge) (o : Option Block) → slice_get diagram.blocks edge.from ≡ o
+          → MatchOption o ⊥ (λ b. (1 ≤ edge.from_port) × (edge.from_port ≤ b.outputs))
+          → A.width_at edge.from edge.from_port ≤ 1024
       at edge None there h = absurd h
       at edge (Some b) there h = width-small edge.from edge.from_port b there (omega (arith, h.0, h.1))
 
@@ -74,7 +76,9 @@ module _ (diagram : Diagram) (is : IsChecked diagram) where
       go (Some edge) e = at edge (slice_get diagram.blocks edge.from) refl (find_holds (Joins diagram.blocks) (enters block port) diagram.edges edge is.wired.edges e).source
 
   -- what the elements of such ports want
-  wants : (number_of : Role → Option ℕ) (width_of : ℕ → ℕ) (elements : List RootElement) → ((block : ℕ) (b : Block) (number : ℕ) → slice_get diagram.blocks block ≡ Some b → number_in number_of b ≡ Some number → width_of block ≤ 1024)
+  wants : (number_of : Role → Option ℕ) (width_of : ℕ → ℕ) (elements : List RootElement)
+      → ((block : ℕ) (b : Block) (number : ℕ) → slice_get diagram.blocks block ≡ Some b
+      → number_in number_of b ≡ Some number → width_of block ≤ 1024)
       → ((place : ℕ) (e : RootElement) → slice_get elements place ≡ Some e → IsElementOfPort number_of width_of diagram A e) → All IsWanted (map (wanted_of diagram width_of) elements)
   wants number_of width_of elements small of = All-map IsWanted (wanted_of diagram width_of) elements
       (λ k d low. each _ (All-contains_itself elements k d low))

@@ -1,5 +1,6 @@
 -- Lists by their places, counts up to a place, names that are given, and numbers that attributes have.
-use Rattle.std.proofs.Common.{◌≡◌, ℕ, zero, suc, ◌<◌, ◌≤◌, ⊎_elim, Bool, true, false, not, ◌||◌, if◌then◌else◌, List, [], ◌∷◌, map, filter, find, length, Contains, Option, Some, None, refl, sym, ap, subst, ◌∙◌, arith}
+use Rattle.std.proofs.Common.{◌≡◌, ℕ, zero, suc, ◌<◌, ◌≤◌, ⊎_elim, Bool, true, false, not, ◌||◌, if◌then◌else◌, List, [], ◌∷◌, map, filter, find, length, Contains, Option, Some, None, refl, sym, ap}
+use Rattle.std.proofs.Common.{subst, ◌∙◌, arith}
 use Rattle.std.specs.Prelude.{slice_get, is_none, option_map}
 use Rattle.std.specs.List.{zip}
 use Rattle.std.proofs.lemmas.Bool.{cases_Bool, cases_eq, cond-false, cond-true}
@@ -21,13 +22,16 @@ zip-at (z ∷ xs) [] k x y a b = absurd (cc b)
 zip-at (z ∷ xs) (w ∷ ys) zero x y a b = let p : z ≡ x = cc a in let q : w ≡ y = cc b in (λ i. Some (p i, q i))
 zip-at (z ∷ xs) (w ∷ ys) (suc k) x y a b = zip-at xs ys k x y a b
 
-pub named-at : (names : List (List ℕ)) (roots : List RootElement) (k : ℕ) (e : NamedElement) → slice_get (named names roots) k ≡ Some e → (slice_get names k ≡ Some e.name) × (slice_get roots k ≡ Some e.root)
+pub named-at : (names : List (List ℕ)) (roots : List RootElement) (k : ℕ) (e : NamedElement)
+    → slice_get (named names roots) k ≡ Some e
+    → (slice_get names k ≡ Some e.name) × (slice_get roots k ≡ Some e.root)
 named-at [] roots k e is = absurd (cc is)
 named-at (n ∷ names) [] k e is = absurd (cc is)
 named-at (n ∷ names) (r ∷ roots) zero e is = let same : element n r ≡ e = cc is in (ap (λ (x : NamedElement). Some x.name) same, ap (λ (x : NamedElement). Some x.root) same)
 named-at (n ∷ names) (r ∷ roots) (suc k) e is = named-at names roots k e is
 
-pub to-named : (names : List (List ℕ)) (roots : List RootElement) (k : ℕ) (n : List ℕ) (r : RootElement) → slice_get names k ≡ Some n → slice_get roots k ≡ Some r → slice_get (named names roots) k ≡ Some (element n r)
+pub to-named : (names : List (List ℕ)) (roots : List RootElement) (k : ℕ) (n : List ℕ) (r : RootElement)
+    → slice_get names k ≡ Some n → slice_get roots k ≡ Some r → slice_get (named names roots) k ≡ Some (element n r)
 to-named [] roots k n r a b = absurd (cc a)
 to-named (x ∷ names) [] k n r a b = absurd (cc b)
 to-named (x ∷ names) (y ∷ roots) zero n r a b = let p : x ≡ n = cc a in let q : y ≡ r = cc b in (λ i. Some (element (p i) (q i)))

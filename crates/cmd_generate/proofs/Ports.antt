@@ -1,5 +1,6 @@
 -- The ports of a diagram's module that carry numbers, and what they declare.
-use Rattle.std.proofs.Common.{◌≡◌, ℕ, zero, suc, ◌+◌, ◌==◌, nat_le, Bool, true, false, not, ◌&&◌, ◌||◌, if◌then◌else◌, List, [], ◌∷◌, ◌++◌, map, filter, find, length, drop, Contains, bytes_eq, codes, Option, Some, None, refl, sym, ap, subst, ◌∙◌, arith, length-append, length-drop}
+use Rattle.std.proofs.Common.{◌≡◌, ℕ, zero, suc, ◌+◌, ◌==◌, nat_le, Bool, true, false, not, ◌&&◌, ◌||◌, if◌then◌else◌, List, [], ◌∷◌, ◌++◌, map, filter, find, length, drop, Contains, bytes_eq, codes}
+use Rattle.std.proofs.Common.{Option, Some, None, refl, sym, ap, subst, ◌∙◌, arith, length-append, length-drop}
 use Rattle.std.specs.Prelude.{slice_get, is_none, option_map, unwrap_or}
 use Rattle.std.specs.List.{list_any}
 use Rattle.std.proofs.lemmas.List.{append-nil, length-map}
@@ -120,14 +121,18 @@ module _ {core : Module} {diagram : Diagram} {plan : Resolved} {timing : Timing}
 
   pub cycles-told : cycles_of core ≡ Some plan.cycles
   cycles-told =
-      let e : cycles_of core ≡ (if nat_le 1 plan.cycles && nat_le plan.cycles 1024 then Some plan.cycles else None) = ap (λ (attrs : List Attr). attribute attrs (codes "fx_cycles") 1 1024) c.header.attrs in
+      let e : cycles_of core ≡ (if nat_le 1 plan.cycles
+      && nat_le plan.cycles 1024 then Some plan.cycles else None) =
+      ap (λ (attrs : List Attr). attribute attrs (codes "fx_cycles") 1 1024) c.header.attrs in
       e ∙ kept plan.cycles (nat_le 1 plan.cycles && nat_le plan.cycles 1024) (sym (ap is_none e) ∙ attributed.0)
 
   pub cycles-are : clocks_of core ≡ plan.cycles
   cycles-are = ap (λ (o : Option ℕ). unwrap_or o 1) cycles-told
 
   lacks-none : (port : Port) → Contains core.ports port → lacks_attribute true port ≡ false
-  lacks-none port h = ap (λ s. lacks_attribute s port) (sym stalls) ∙ none-found (lacks_attribute (is_stallable core)) core.ports (not-mapped (find (lacks_attribute (is_stallable core)) core.ports) attributed.1) port h
+  lacks-none port h = ap (λ s. lacks_attribute s port) (sym stalls)
+      ∙ none-found (lacks_attribute (is_stallable core)) core.ports
+      (not-mapped (find (lacks_attribute (is_stallable core)) core.ports) attributed.1) port h
 
   in-there : (e : NamedElement) → Contains ins e → Contains core.ports (in_port e)
   in-there e h = subst (λ ports. Contains ports (in_port e)) (sym c.header.ports)
@@ -195,7 +200,9 @@ module _ {core : Module} {diagram : Diagram} {plan : Resolved} {timing : Timing}
       (element n.0 root, to-named (drop (length (root_inputs diagram A)) c.names) (root_outputs diagram A) index n.0 root n.1 at, refl)
 
   -- the root element of an input
-  pub input-at : (index : ℕ) (port : Port) → slice_get (stimulus_ports core) index ≡ Some port → (e : NamedElement) × (slice_get ins index ≡ Some e) × (in_port e ≡ port) × (slice_get (root_inputs diagram A) index ≡ Some e.root)
+  pub input-at : (index : ℕ) (port : Port) → slice_get (stimulus_ports core) index ≡ Some port
+      → (e : NamedElement) × (slice_get ins index ≡ Some e) × (in_port e ≡ port)
+      × (slice_get (root_inputs diagram A) index ≡ Some e.root)
   input-at index port at =
       let e = map_there in_port ins index port (sym (ap (λ (ports : List Port). slice_get ports index) stimulus-are) ∙ at) in
       (e.0, e.1, e.2, (named-at c.names (root_inputs diagram A) index e.0 e.1).1)

@@ -54,7 +54,9 @@ module _ (diagram : Diagram) (wired : IsWired diagram) (kept : AllKeep diagram (
   pub out-steady : (e : RootElement) → Contains (root_outputs diagram A) e → e.period ≡ Some 1
   out-steady e c = (out-both e c).1
 
-  pub out-ready : (plan : Resolved) (timing : Timing) → ReadyFits → IsScheduled diagram plan timing → (e : RootElement) → Contains (root_outputs diagram A) e → ready_of diagram A plan timing e.block < plan.cycles
+  pub out-ready : (plan : Resolved) (timing : Timing) → ReadyFits → IsScheduled diagram plan timing
+      → (e : RootElement) → Contains (root_outputs diagram A) e
+      → ready_of diagram A plan timing e.block < plan.cycles
   out-ready plan timing fits scheduled e c =
       let p = (out-both e c).0 in
       let h = fits diagram plan timing e.block 1 scheduled p in

@@ -61,7 +61,9 @@ module _ (laws : Laws) {diagram : Diagram} {plan : Resolved} {timing : Timing} {
     differ = names-apart taken_names (wanted_names diagram) names s.are_names.given;
   }
 
-  pub stream-of : (m : Module) → HasStreamHeader core names m → BreaksNone m → length (multiplications m) ≡ length (multiplications core) → ShakesHands core m → CarriesTransfers core names m → FollowsCore core names m
+  pub stream-of : (m : Module) → HasStreamHeader core names m → BreaksNone m
+      → length (multiplications m) ≡ length (multiplications core) → ShakesHands core m
+      → CarriesTransfers core names m → FollowsCore core names m
       → IsStreamOf m diagram plan timing
   stream-of m header sound products shakes carries follows = record {
     names = names;
@@ -77,18 +79,23 @@ module _ (laws : Laws) {diagram : Diagram} {plan : Resolved} {timing : Timing} {
   }
 
   -- what is given is such a module
-  pub stream-all : {E : Type 0} (r : Result Module E) → IfOk r (HasStreamHeader core names) → IfOk r BreaksNone → IfOk r (λ m. length (multiplications m) ≡ length (multiplications core)) → IfOk r (ShakesHands core)
+  pub stream-all : {E : Type 0} (r : Result Module E) → IfOk r (HasStreamHeader core names) → IfOk r BreaksNone
+      → IfOk r (λ m. length (multiplications m) ≡ length (multiplications core)) → IfOk r (ShakesHands core)
       → IfOk r (CarriesTransfers core names) → IfOk r (FollowsCore core names) → IfOk r (λ m. IsStreamOf m diagram plan timing)
   stream-all (Ok m) header sound products shakes carries follows = stream-of m header sound products shakes carries follows
   stream-all (Err e) header sound products shakes carries follows = tt
 
 -- the core that is given of a diagram with its times
-pub core-all : {E : Type 0} (diagram : Diagram) (plan : Resolved) (times : Times) (r : Result Module E) → IfOk r (λ m. IsModuleOf m diagram plan (timing_in times)) → IfOk r (λ m. Spells (spelling m) m) → IfOk r KeepsBits
+pub core-all : {E : Type 0} (diagram : Diagram) (plan : Resolved) (times : Times) (r : Result Module E)
+    → IfOk r (λ m. IsModuleOf m diagram plan (timing_in times)) → IfOk r (λ m. Spells (spelling m) m)
+    → IfOk r KeepsBits
     → IfOk r (IsCoreOf diagram plan times)
 core-all diagram plan times (Ok m) owed spelled keeps = record { owed = owed; keeps = keeps; spelled = spelled }
 core-all diagram plan times (Err e) owed spelled keeps = tt
 
-pub is-core : (diagram : Diagram) (plan : Resolved) (times : Times) (core : Module) (names : List (List ℕ)) → SlotsAreScheduled → IsChecked diagram → IsPlanOf diagram plan → AreTimes diagram plan times → AllKeep diagram (KeepsStream diagram)
+pub is-core : (diagram : Diagram) (plan : Resolved) (times : Times) (core : Module) (names : List (List ℕ))
+    → SlotsAreScheduled → IsChecked diagram → IsPlanOf diagram plan → AreTimes diagram plan times
+    → AllKeep diagram (KeepsStream diagram)
     → IsCoreOf diagram plan times core → AreStreamNames diagram names → IsCore diagram plan (timing_in times) core names
 is-core diagram plan times core names scheduled checked planned are kept of are_names = record {
   kept = kept;

@@ -128,7 +128,9 @@ module _ {core : Module} {diagram : Diagram} {plan : Resolved} {timing : Timing}
         }
 
         -- the clock at which an output shows the sample
-        shows-at : (e : NamedElement) (index : ℕ) → slice_get outs index ≡ Some e → f.core_rows (row_at f.core_window (shown_at core number (out_port e))) e.name ≡ bits_of (width_of e.root.type) (table e.root.block 1 e.root.element number)
+        shows-at : (e : NamedElement) (index : ℕ) → slice_get outs index ≡ Some e
+            → f.core_rows (row_at f.core_window (shown_at core number (out_port e))) e.name
+            ≡ bits_of (width_of e.root.type) (table e.root.block 1 e.root.element number)
         shows-at e index at =
             let h = got-in outs index e at in
             let lat : ℕ = latency_at timing.lat e.root.block in
@@ -141,7 +143,10 @@ module _ {core : Module} {diagram : Diagram} {plan : Resolved} {timing : Timing}
             let split : (number + lat + 1) * plan.cycles ≡ number * plan.cycles + lat * plan.cycles + plan.cycles = omega arith in
             let step = out-step e h in
             let hit : number % step_of e.root ≡ 0 = ap (λ s. number % s) step ∙ (let r = mod_below number 1 (omega arith) in omega (arith, r)) in
-            let inside : row_at f.core_window n < f.core_window.rows = f.reached number place is index (out_port e) (ap (λ (ports : List Port). slice_get ports index) (outputs-are c) ∙ there_map out_port outs index e at) in
+            let inside : row_at f.core_window n < f.core_window.rows =
+            f.reached number place is index (out_port e)
+            (ap (λ (ports : List Port). slice_get ports index) (outputs-are c)
+            ∙ there_map out_port outs index e at) in
             let from : number * plan.cycles + declared e ≤ n = omega (arith, n-is, split, less) in
             let until : n < (number + lat + step_of e.root) * plan.cycles = subst (λ s. n < (number + lat + s) * plan.cycles) (sym step) (omega (arith, n-is, split, less)) in
             c.bits (taken_by window rows place) f.core_window stimulus table f.core_rows run index e at number some hit n n from until (ticks n inside)

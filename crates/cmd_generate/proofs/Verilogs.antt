@@ -8,7 +8,9 @@ use Rattle.vl_ast.specs.Grammar.{Spells}
 use Rattle.vl_ast.specs.Spelling.{spelling}
 
 -- the written text of a module, where it spells it
-pub written-of : (made : Module) (text : List ℕ) → ((bytes : List ℕ) (one other : Module) → Spells bytes one → Spells bytes other → one ≡ other) → Spells (spelling made) made → text ≡ spelling made → IsTextOf made text
+pub written-of : (made : Module) (text : List ℕ)
+    → ((bytes : List ℕ) (one other : Module) → Spells bytes one → Spells bytes other → one ≡ other)
+    → Spells (spelling made) made → text ≡ spelling made → IsTextOf made text
 written-of made text unique spelled is =
     let spells = subst (λ (bytes : List ℕ). Spells bytes made) (sym is) spelled in
     record { made = made; spelled = is; alone = record { spells = spells; alone = λ other theirs. unique text other made theirs spells }; so = refl }

@@ -10,8 +10,13 @@ last : (xs : List ℕ) (x : ℕ) → flat_map quoted_byte (xs ++ x ∷ []) ≡ f
 last [] x = append-nil (quoted_byte x)
 last (y ∷ xs) x = ap (λ (rest : List ℕ). quoted_byte y ++ rest) (last xs x) ∙ sym (append_assoc (quoted_byte y) (flat_map quoted_byte xs) (quoted_byte x))
 
-pub plain_more : (name : List ℕ) (count d : ℕ) → count < length name → flat_map quoted_byte (take count name) ≡ take count name → quoted_byte (slice_index_or name count d) ≡ slice_index_or name count d ∷ [] → flat_map quoted_byte (take (count + 1) name) ≡ take (count + 1) name
+pub plain_more : (name : List ℕ) (count d : ℕ) → count < length name
+    → flat_map quoted_byte (take count name) ≡ take count name
+    → quoted_byte (slice_index_or name count d) ≡ slice_index_or name count d ∷ []
+    → flat_map quoted_byte (take (count + 1) name) ≡ take (count + 1) name
 plain_more name count d below before one =
     let next : count + 1 ≡ suc count = omega arith in
     let cut = ap (λ (n : ℕ). take n name) next ∙ take-suc name count d below in
-    ap (flat_map quoted_byte) cut ∙ last (take count name) (slice_index_or name count d) ∙ ap (λ (xs : List ℕ). xs ++ quoted_byte (slice_index_or name count d)) before ∙ ap (λ (xs : List ℕ). take count name ++ xs) one ∙ sym cut
+    ap (flat_map quoted_byte) cut ∙ last (take count name) (slice_index_or name count d)
+    ∙ ap (λ (xs : List ℕ). xs ++ quoted_byte (slice_index_or name count d)) before
+    ∙ ap (λ (xs : List ℕ). take count name ++ xs) one ∙ sym cut

@@ -59,11 +59,15 @@ moved-table one other table made of is =
     (subst (λ (rows : Table). Sampled (module_of other) (numbers_of rows) rows.lines table) (sym of) is)
 
 -- a line of these periods and numbers is that of the table's row
-line-of : {ps qs : List ℕ} {sample : ℕ} {row : List ℤ} {bytes : List ℕ} (table : ℕ → List ℤ) → bytes ≡ response_line ps sample row → ps ≡ qs → row ≡ table sample → bytes ≡ response_line qs sample (table sample)
+line-of : {ps qs : List ℕ} {sample : ℕ} {row : List ℤ} {bytes : List ℕ} (table : ℕ → List ℤ)
+    → bytes ≡ response_line ps sample row → ps ≡ qs → row ≡ table sample
+    → bytes ≡ response_line qs sample (table sample)
 line-of {ps} {qs} {sample} {row} table line periods is = line ∙ ap (λ (p : List ℕ). response_line p sample row) periods ∙ ap (response_line qs sample) is
 
 -- the sample after, by what a step and a line say
-module _ {first replay : Replay} {writer text : RowText} {sample : ℕ} (goes : GoesOn first writer sample replay text) (next : Replay) (source : module_of next ≡ module_of replay) (stimulus : stimulus_of next ≡ stimulus_of replay) where
+module _ {first replay : Replay} {writer text : RowText} {sample : ℕ}
+    (goes : GoesOn first writer sample replay text) (next : Replay) (source : module_of next ≡ module_of replay)
+    (stimulus : stimulus_of next ≡ stimulus_of replay) where
   pub goes-on : (behind : RowText) → StandsBefore next (sample + 1) → periods_of behind ≡ periods_of text → GoesOn first writer (sample + 1) next behind
   goes-on behind stands periods = record { stands = stands; source = source ∙ goes.source; stimulus = stimulus ∙ goes.stimulus; periods = periods ∙ goes.periods }
 
@@ -78,7 +82,9 @@ module _ {first replay : Replay} {writer text : RowText} {sample : ℕ} (goes : 
 
 -- the rows of a stimulus have this fault by the columns of a module's ports
 pub bad-stimulus : (verilog stimulus : List ℕ) (m : Module) (inputs outputs : List Column) (line : ℕ) (cause : TableCause) → IsSoundText verilog m
-    → inputs ≡ columns_of (stimulus_ports m) → outputs ≡ columns_of (output_ports m) → stimulus_fault inputs (length outputs) stimulus ≡ Some (Bad line cause) → IsBadStimulus verilog stimulus line cause
+    → inputs ≡ columns_of (stimulus_ports m) → outputs ≡ columns_of (output_ports m)
+    → stimulus_fault inputs (length outputs) stimulus ≡ Some (Bad line cause)
+    → IsBadStimulus verilog stimulus line cause
 bad-stimulus verilog stimulus m inputs outputs line cause sound ins outs bad = record {
   made = m;
   spelled = sound;

@@ -2,7 +2,8 @@
 use Rattle.std.proofs.Common.{◌≡◌, ◌+◌, ◌++◌, ℕ, Bool, false, List, [], Option, None, Some, ap, refl}
 use Rattle.std.specs.Prelude.{codes}
 use Rattle.std.specs.Fmt.{digits}
-use Rattle.cmd_sample.specs.ModelText.{sample_model, parameter_text, block_head, section_end, type_parameter, gain_parameters, source_text, target_text, model_head, input_text, ends_text, end_lines, model_end}
+use Rattle.cmd_sample.specs.ModelText.{sample_model, parameter_text, block_head, section_end, type_parameter, gain_parameters, source_text, target_text, model_head, input_text, ends_text, end_lines}
+use Rattle.cmd_sample.specs.ModelText.{model_end}
 use Rattle.cmd_sample.specs.Numbers.{number_after}
 use Rattle.cmd_sample.specs.Stimulus.{sample_stimulus}
 use Rattle.cmd_sample.specs.Summary.{are_equal, equal_count, equal_line, field_at, one_if, made_lines, number_line, summary_text}

@@ -13,7 +13,8 @@ use Rattle.mdl_text.proofs.Classes.{name_no_blank}
 use Rattle.cmd_sample.specs.declared.chain.ChainKind.{ChainKind}
 use Rattle.cmd_sample.specs.declared.chain.ChainKind.TheVariants.{Delay, Sum, Gain, Product, Switch}
 use Rattle.cmd_sample.specs.Chain.{word_of, inputs_of}
-use Rattle.cmd_sample.specs.ModelText.{chain_name, parameter_text, block_head, section_end, block_text, type_parameter, gain_parameters, parameters_of, chain_text, source_text, target_text, line_text, chain_lines, kind_at, block_at, lines_at, model_head, input_text, ends_text, end_lines, model_end, sample_model}
+use Rattle.cmd_sample.specs.ModelText.{chain_name, parameter_text, block_head, section_end, block_text, type_parameter, gain_parameters, parameters_of, chain_text, source_text, target_text, line_text}
+use Rattle.cmd_sample.specs.ModelText.{chain_lines, kind_at, block_at, lines_at, model_head, input_text, ends_text, end_lines, model_end, sample_model}
 use Rattle.cmd_sample.proofs.WholeLines.{Spelled, empty, joined, same_bytes, ranged, opens, closes, bare, in_quotes, is_word_byte, AreWord, word_line, stands}
 
 -- ---- words
@@ -134,7 +135,10 @@ outport = bare_of 79 (codes "utport") (codes "Outpor") 116 refl refl refl
 ends : Spelled 2 ends_text 2
 unfolding ends_text is_name_byte
 ends =
-    joined (joined (block (codes "RateTransition") (codes "Down") (parameter_text (codes "OutPortSampleTime") (codes "2")) (bare_of 82 (codes "ateTransition") (codes "RateTransitio") 110 refl refl refl) refl refl (parameter 79 (codes "utPortSampleTime") (codes "2") refl refl))
+    joined (joined (block (codes "RateTransition") (codes "Down")
+    (parameter_text (codes "OutPortSampleTime") (codes "2"))
+    (bare_of 82 (codes "ateTransition") (codes "RateTransitio") 110 refl refl refl) refl refl
+    (parameter 79 (codes "utPortSampleTime") (codes "2") refl refl))
     (block (codes "Outport") (codes "Out") [] outport refl refl (empty 3)))
     (block (codes "Outport") (codes "Slow") (parameter_text (codes "Port") (codes "2")) outport refl refl (parameter 80 (codes "ort") (codes "2") refl refl))
 

@@ -5,24 +5,34 @@ use Rattle.std.specs.List.{flat_map, range_with_len, sum_by}
 use Rattle.std.proofs.lemmas.List.Concat.{flat_map-append}
 use Rattle.std.proofs.lemmas.List.Sums.{sum_by_push}
 use Rattle.cmd_sample.specs.Chain.{word_of}
-use Rattle.cmd_sample.specs.ModelText.{parameter_text, block_head, section_end, source_text, target_text, type_parameter, model_head, input_text, ends_text, end_lines, line_text, block_text, chain_name, chain_text, parameters_of}
+use Rattle.cmd_sample.specs.ModelText.{parameter_text, block_head, section_end, source_text, target_text, type_parameter, model_head, input_text, ends_text, end_lines, line_text, block_text}
+use Rattle.cmd_sample.specs.ModelText.{chain_name, chain_text, parameters_of}
 use Rattle.cmd_sample.specs.Summary.{number_line, made_lines, equal_line, summary_text}
 use Rattle.cmd_sample.specs.declared.chain.ChainKind.{ChainKind}
 use Rattle.cmd_sample.specs.declared.summing.Made.{Made}
 use Rattle.math_list.proofs.Places.{three_appended}
 
 -- the pieces of a line from a block to a port of another
-line_pieces : (line own source quote from other target to port end last : List ℕ) → line ++ (own ++ (source ++ (quote ++ (from ++ (other ++ (target ++ (quote ++ (to ++ (port ++ (end ++ (last ++ []))))))))))) ≡
+line_pieces : (line own source quote from other target to port end last : List ℕ)
+    → line ++ (own ++ (source ++ (quote ++ (from
+    ++ (other ++ (target ++ (quote ++ (to ++ (port ++ (end ++ (last ++ []))))))))))) ≡
     (line ++ (own ++ source ++ quote) ++ from) ++ ((other ++ target ++ quote) ++ to ++ port ++ end ++ last)
 line_pieces line own source quote from other target to port end last = simp (append_assoc, append-nil)
 
 pub line_put : (old source target digits new : List ℕ) (port : ℕ) → digits ≡ decimal port
-    → new ≡ old ++ (codes "    Line {\n" ++ (codes "      SrcBlock \"" ++ (source ++ (codes "\"\n" ++ (codes "      SrcPort 1\n" ++ (codes "      DstBlock \"" ++ (target ++ (codes "\"\n" ++ (codes "      DstPort " ++ (digits ++ (codes "\n" ++ (codes "    }\n" ++ []))))))))))))
+    → new ≡ old ++ (codes "    Line {\n" ++ (codes "      SrcBlock \""
+    ++ (source ++ (codes "\"\n" ++ (codes "      SrcPort 1\n"
+    ++ (codes "      DstBlock \"" ++ (target
+    ++ (codes "\"\n"
+    ++ (codes "      DstPort " ++ (digits ++ (codes "\n" ++ (codes "    }\n" ++ []))))))))))))
     → new ≡ old ++ line_text source target port
 unfolding source_text target_text parameter_text section_end
 line_put old source target digits new port is put =
     put
-    ∙ ap (λ text. old ++ text) (line_pieces (codes "    Line {\n") (codes "      SrcBlock \"") source (codes "\"\n") (codes "      SrcPort 1\n") (codes "      DstBlock \"") target (codes "      DstPort ") digits (codes "\n") (codes "    }\n"))
+    ∙ ap (λ text. old ++ text) (line_pieces
+    (codes "    Line {\n") (codes "      SrcBlock \"") source (codes "\"\n")
+    (codes "      SrcPort 1\n")
+    (codes "      DstBlock \"") target (codes "      DstPort ") digits (codes "\n") (codes "    }\n"))
     ∙ ap (λ number. old ++ (source_text source ++ (parameter_text (codes "DstBlock") target ++ codes "      DstPort " ++ number ++ codes "\n" ++ section_end))) is
 
 -- the pieces of a block
@@ -41,13 +51,18 @@ block_put old word name parameters new place kind is_word is_name are put =
     ∙ ap (λ own. old ++ block_text (word_of kind) own parameters) is_name
     ∙ ap (λ own. old ++ block_text (word_of kind) (chain_name place) own) are
 
-pub start_put : (old new : List ℕ) → new ≡ old ++ (codes "Model {\n" ++ (codes "  Name \"sample\"\n" ++ (codes "  System {\n" ++ (codes "    Block {\n" ++ (codes "      BlockType Inport\n" ++ (codes "      Name \"In\"\n" ++
+pub start_put : (old new : List ℕ) → new
+    ≡ old ++ (codes "Model {\n" ++ (codes "  Name \"sample\"\n"
+    ++ (codes "  System {\n"
+    ++ (codes "    Block {\n" ++ (codes "      BlockType Inport\n" ++ (codes "      Name \"In\"\n" ++
     (codes "      OutDataTypeStr \"fixdt(1,16,8)\"\n" ++ (codes "      SampleTime \"1\"\n" ++ (codes "    }\n" ++ [])))))))))
     → new ≡ old ++ (model_head ++ input_text)
 unfolding model_head input_text block_head parameter_text type_parameter section_end
 start_put old new put = put
 
-pub ends_put : (old new : List ℕ) → new ≡ old ++ (codes "    Block {\n" ++ (codes "      BlockType RateTransition\n" ++ (codes "      Name \"Down\"\n" ++ (codes "      OutPortSampleTime \"2\"\n" ++ (codes "    }\n" ++
+pub ends_put : (old new : List ℕ) → new
+    ≡ old ++ (codes "    Block {\n" ++ (codes "      BlockType RateTransition\n"
+    ++ (codes "      Name \"Down\"\n" ++ (codes "      OutPortSampleTime \"2\"\n" ++ (codes "    }\n" ++
     (codes "    Block {\n" ++ (codes "      BlockType Outport\n" ++ (codes "      Name \"Out\"\n" ++ (codes "    }\n" ++
     (codes "    Block {\n" ++ (codes "      BlockType Outport\n" ++ (codes "      Name \"Slow\"\n" ++ (codes "      Port \"2\"\n" ++ (codes "    }\n" ++ []))))))))))))))
     → new ≡ old ++ ends_text
@@ -65,7 +80,10 @@ six_appended old a b c d e f one two three four five six p q r s t u = rw (u, t,
 
 -- the pieces of a summary
 summary_pieces : (first blocks end second eight third multiplications fourth out fifth slow last equal of : List ℕ)
-    → first ++ (blocks ++ ((end ++ second) ++ (eight ++ ((end ++ third) ++ (multiplications ++ ((end ++ fourth) ++ (out ++ ((end ++ fifth) ++ (slow ++ ((end ++ last) ++ (equal ++ (of ++ [])))))))))))) ≡
+    → first ++ (blocks ++ ((end ++ second)
+    ++ (eight ++ ((end ++ third) ++ (multiplications
+    ++ ((end ++ fourth)
+    ++ (out ++ ((end ++ fifth) ++ (slow ++ ((end ++ last) ++ (equal ++ (of ++ [])))))))))))) ≡
     (first ++ blocks ++ end) ++ (second ++ eight ++ end) ++ ((third ++ multiplications ++ end) ++ (fourth ++ out ++ end) ++ (fifth ++ slow ++ end)) ++ (last ++ equal ++ of)
 summary_pieces first blocks end second eight third multiplications fourth out fifth slow last equal of = simp (append_assoc, append-nil)
 
@@ -75,14 +93,23 @@ summary_of blocks samples multiplications out slow equal =
     ++ ((codes "multiplications " ++ multiplications ++ codes "\n") ++ (codes "latency Out " ++ out ++ codes "\n") ++ (codes "latency Slow " ++ slow ++ codes "\n"))
     ++ (codes "equal " ++ equal ++ codes " of 12\n")
 
-pub summary_put : (old blocks samples multiplications out slow equal new : List ℕ) (count : ℕ) (made : Made) (fields : ℕ) → blocks ≡ decimal (count + 4) → samples ≡ decimal 8 → multiplications ≡ decimal made.multiplications → out ≡ decimal made.out_latency
+pub summary_put : (old blocks samples multiplications out slow equal new : List ℕ) (count : ℕ) (made : Made)
+    (fields : ℕ) → blocks ≡ decimal (count + 4) → samples ≡ decimal 8
+    → multiplications ≡ decimal made.multiplications → out ≡ decimal made.out_latency
     → slow ≡ decimal made.slow_latency → equal ≡ decimal fields
-    → new ≡ old ++ (codes "blocks " ++ (blocks ++ (codes "\nsamples " ++ (samples ++ (codes "\nmultiplications " ++ (multiplications ++ (codes "\nlatency Out " ++ (out ++ (codes "\nlatency Slow " ++ (slow ++ (codes "\nequal " ++ (equal ++ (codes " of 12\n" ++ [])))))))))))))
+    → new ≡ old ++ (codes "blocks " ++ (blocks
+    ++ (codes "\nsamples " ++ (samples ++ (codes "\nmultiplications "
+    ++ (multiplications ++ (codes "\nlatency Out "
+    ++ (out ++ (codes "\nlatency Slow "
+    ++ (slow ++ (codes "\nequal " ++ (equal ++ (codes " of 12\n" ++ [])))))))))))))
     → new ≡ old ++ summary_text count made fields
 unfolding number_line made_lines equal_line
 summary_put old blocks samples multiplications out slow equal new count made fields p eight q r s t put =
     put
-    ∙ ap (λ text. old ++ text) (summary_pieces (codes "blocks ") blocks (codes "\n") (codes "samples ") samples (codes "multiplications ") multiplications (codes "latency Out ") out (codes "latency Slow ") slow (codes "equal ") equal (codes " of 12\n"))
+    ∙ ap (λ text. old ++ text) (summary_pieces
+    (codes "blocks ") blocks (codes "\n")
+    (codes "samples ") samples (codes "multiplications ") multiplications
+    (codes "latency Out ") out (codes "latency Slow ") slow (codes "equal ") equal (codes " of 12\n"))
     ∙ ap (λ (n : List ℕ). old ++ summary_of n samples multiplications out slow equal) p
     ∙ ap (λ (n : List ℕ). old ++ summary_of (decimal (count + 4)) n multiplications out slow equal) eight
     ∙ ap (λ (n : List ℕ). old ++ summary_of (decimal (count + 4)) (decimal 8) n out slow equal) q

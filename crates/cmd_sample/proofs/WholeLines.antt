@@ -46,11 +46,15 @@ joined {from} {between} {to} {one} {other} first second = record {
   items = first.items ++ second.items;
   builds = λ more rest built.
       let all = first.builds (flat_map (λ (part : Part). part.says ∷ []) second.parts ++ more) (second.items ++ rest) (second.builds more rest built) in
-      let says : flat_map (λ (part : Part). part.says ∷ []) first.parts ++ (flat_map (λ (part : Part). part.says ∷ []) second.parts ++ more) ≡ flat_map (λ (part : Part). part.says ∷ []) (first.parts ++ second.parts) ++ more =
+      let says : flat_map (λ (part : Part). part.says ∷ []) first.parts
+      ++ (flat_map (λ (part : Part). part.says ∷ []) second.parts ++ more)
+      ≡ flat_map (λ (part : Part). part.says ∷ []) (first.parts ++ second.parts) ++ more =
       sym (append_assoc (flat_map (λ (part : Part). part.says ∷ []) first.parts) (flat_map (λ (part : Part). part.says ∷ []) second.parts) more)
       ∙ ap (λ said. said ++ more) (sym (flat_map-append (λ (part : Part). part.says ∷ []) first.parts second.parts)) in
       subst (λ said. Builds from said ((first.items ++ second.items) ++ rest)) says
-      (subst (Builds from (flat_map (λ (part : Part). part.says ∷ []) first.parts ++ (flat_map (λ (part : Part). part.says ∷ []) second.parts ++ more))) (sym (append_assoc first.items second.items rest)) all);
+      (subst (Builds from (flat_map (λ (part : Part). part.says ∷ []) first.parts
+      ++ (flat_map (λ (part : Part). part.says ∷ []) second.parts ++ more)))
+      (sym (append_assoc first.items second.items rest)) all);
 }
 
 -- the same bytes, written otherwise
@@ -99,7 +103,8 @@ gives_after before name said line blanks is_name form =
     record { before = before; between = 32 ∷ []; blanks = blanks; is_name = is_name; blanks_between = refl; some_between = λ none. absurd (cc none); form = form }
 
 -- a parameter with a bare value
-pub bare : (depth : ℕ) (before name value : List ℕ) → AreBlanks before → IsName name → IsBare value → IsOneLine before → IsOneLine value → Spelled depth ((before ++ (name ++ (32 ∷ value))) ++ 10 ∷ []) depth
+pub bare : (depth : ℕ) (before name value : List ℕ) → AreBlanks before → IsName name → IsBare value
+    → IsOneLine before → IsOneLine value → Spelled depth ((before ++ (name ++ (32 ∷ value))) ++ 10 ∷ []) depth
 unfolding is_blank
 bare depth before name value blanks is_name is_bare before_line value_line =
     let line : List ℕ = before ++ (name ++ (32 ∷ value)) in
@@ -149,14 +154,18 @@ plain_value [] = refl
 plain_value (byte ∷ bytes) = ap (λ rest. byte ∷ rest) (plain_value bytes)
 
 -- a parameter with a quoted value
-pub in_quotes : (depth : ℕ) (before name value : List ℕ) → AreBlanks before → IsName name → AreWord value → IsOneLine before → Spelled depth ((before ++ (name ++ (32 ∷ 34 ∷ (value ++ 34 ∷ [])))) ++ 10 ∷ []) depth
+pub in_quotes : (depth : ℕ) (before name value : List ℕ) → AreBlanks before → IsName name → AreWord value
+    → IsOneLine before → Spelled depth ((before ++ (name ++ (32 ∷ 34 ∷ (value ++ 34 ∷ [])))) ++ 10 ∷ []) depth
 unfolding is_blank
 in_quotes depth before name value blanks is_name word before_line =
     let strings : List ℕ = 34 ∷ (value ++ 34 ∷ []) in
     let line : List ℕ = before ++ (name ++ (32 ∷ strings)) in
     let same : strings ≡ quoted (map Plain value) = ap (λ bytes. 34 ∷ (bytes ++ 34 ∷ [])) (sym (plain_bytes value)) in
     line_spelled depth depth line (Entry name (Quoted value)) (record { depth = depth; name = name; value = Quoted value } ∷ [])
-    (line_join before (name ++ (32 ∷ strings)) before_line (line_join name (32 ∷ strings) (name_line name is_name.each) (line_join (32 ∷ 34 ∷ []) (value ++ 34 ∷ []) refl (line_join value (34 ∷ []) (word_line value word) refl))))
+    (line_join before (name ++ (32 ∷ strings)) before_line
+    (line_join name (32 ∷ strings) (name_line name is_name.each)
+    (line_join (32 ∷ 34 ∷ []) (value ++ 34 ∷ []) refl
+    (line_join value (34 ∷ []) (word_line value word) refl))))
     (record {
       line = line;
       strings = strings;

@@ -69,7 +69,9 @@ module _ (checked : CheckedDiagram) (rows : Rows) (periods : List ℕ) (t : ℕ)
       → TookLines checked rows periods t before mid → now ≡ also_took mid line → TookLines checked rows periods (t + 1) before now
   took_line own numbers line before mid now kept at is took more = record {
     each = λ lines shown. more ∙ ap (λ (state : Option (List ℕ)). also_took state line) (took.each lines shown) ∙ also_took-append before (response periods lines t) line
-        ∙ ap (λ (xs : List ℕ). also_took before (response periods lines t ++ xs)) (line-of own numbers line kept at is lines shown) ∙ ap (λ (n : ℕ). also_took before (response periods lines n)) (next t);
+        ∙ ap (λ (xs : List ℕ). also_took before (response periods lines t ++ xs))
+        (line-of own numbers line kept at is lines shown)
+        ∙ ap (λ (n : ℕ). also_took before (response periods lines n)) (next t);
   }
     where
       next : (n : ℕ) → suc n ≡ n + 1

@@ -10,12 +10,14 @@ use Rattle.fx_type.specs.Conversion.{IsTruthOf, Converts}
 use Rattle.fx_round.specs.Laws.{ConversionGivesOne}
 use Rattle.dg_model.specs.declared.op.Op.{Op}
 use Rattle.dg_model.specs.declared.op.Op.TheVariants.{Sum, Gain, Product, Switch, Relational, Logic, Convert, Pass}
-use Rattle.dg_model.specs.Operation.{Operation, OpGives, Gives, IsConverted, IsExactSum, IsAddedUp, step_of, HasArity, HasResultType, HasParameters, HasFullType, CanCarryOut, signed_sum, meets, value_of, type_of, without_frac, stored_truth, compares_values, gate_of}
+use Rattle.dg_model.specs.Operation.{Operation, OpGives, Gives, IsConverted, IsExactSum, IsAddedUp, step_of, HasArity, HasResultType, HasParameters, HasFullType, CanCarryOut, signed_sum, meets}
+use Rattle.dg_model.specs.Operation.{value_of, type_of, without_frac, stored_truth, compares_values, gate_of}
 use Rattle.dg_blocks.specs.Laws.{AddsUpInType, OperationGivesAtMostOne, OperationGivesOne}
 use Rattle.fx_type.proofs.FullTypes.{greatest_only}
 
 -- only the frac of the source counts
-same_frac : (v w : ℤ) (from other to : FxType) (mode : Rounding) (saturate : Bool) (r : ℤ) → v ≡ w → frac_of from ≡ frac_of other → Converts v from to mode saturate r → Converts w other to mode saturate r
+same_frac : (v w : ℤ) (from other to : FxType) (mode : Rounding) (saturate : Bool) (r : ℤ) → v ≡ w
+    → frac_of from ≡ frac_of other → Converts v from to mode saturate r → Converts w other to mode saturate r
 same_frac v w from other Logical mode saturate r e f p = subst (λ (z : ℤ). IsTruthOf z r) e p
 same_frac v w from other (Num s n g) mode saturate r e f p = rw (← e, ← f) p
 
@@ -49,9 +51,13 @@ module _ (conversion : ConversionGivesOne) where
       let terms = zip operation.signs types in
       let e : frac_of b.0 ≡ frac_of a.0 = greatest_only terms (frac_of b.0) (frac_of a.0) b.1.frac a.1.frac in
       converts_one (signed_sum (frac_of a.0) terms inputs) a.0 operation.result operation.rounding operation.saturate r s t a.2
-      (same_frac (signed_sum (frac_of b.0) terms inputs) (signed_sum (frac_of a.0) terms inputs) b.0 a.0 operation.result operation.rounding operation.saturate s (ap (λ (f : ℤ). signed_sum f terms inputs) e) e b.2)
+      (same_frac (signed_sum (frac_of b.0) terms inputs)
+      (signed_sum (frac_of a.0) terms inputs) b.0 a.0 operation.result operation.rounding operation.saturate s
+      (ap (λ (f : ℤ). signed_sum f terms inputs) e) e b.2)
 
-  added_one : (operation : Operation) (accum : FxType) (terms : Terms) (inputs : List ℤ) (before r s : ℤ) → IsType accum → IsAddedUp operation accum terms inputs before r → IsAddedUp operation accum terms inputs before s → r ≡ s
+  added_one : (operation : Operation) (accum : FxType) (terms : Terms) (inputs : List ℤ) (before r s : ℤ)
+      → IsType accum → IsAddedUp operation accum terms inputs before r
+      → IsAddedUp operation accum terms inputs before s → r ≡ s
   added_one operation accum [] inputs before r s t a b = a ∙ sym b
   added_one operation accum (term ∷ terms) [] before r s t a b = a ∙ sym b
   added_one operation accum (term ∷ terms) (v ∷ inputs) before r s t a b =
@@ -59,7 +65,9 @@ module _ (conversion : ConversionGivesOne) where
       added_one operation accum terms inputs a.0 r s t a.2 (subst (λ (x : ℤ). IsAddedUp operation accum terms inputs x s) e b.2)
 
   -- and there is one where each step has a full sum
-  added_some : (operation : Operation) (accum : FxType) (terms : Terms) (inputs : List ℤ) (before : ℤ) → IsType accum → All (λ (term : Bool × FxType). (full : FxType) × IsFullSum ((false, accum) ∷ term ∷ []) full) terms
+  added_some : (operation : Operation) (accum : FxType) (terms : Terms) (inputs : List ℤ) (before : ℤ)
+      → IsType accum
+      → All (λ (term : Bool × FxType). (full : FxType) × IsFullSum ((false, accum) ∷ term ∷ []) full) terms
       → (last : ℤ) × IsAddedUp operation accum terms inputs before last
   added_some operation accum [] inputs before t full = (before, refl)
   added_some operation accum (term ∷ terms) [] before t full = (before, refl)
@@ -81,9 +89,15 @@ module _ (conversion : ConversionGivesOne) where
           let e : b.0 ≡ a.0 = added_one operation accum (zip operation.signs operation.types) inputs (pos 0) b.0 a.0 (adds accum refl) b.1 a.1 in
           conv a.0 accum a.2 (subst (λ (x : ℤ). IsConverted operation x accum s) e b.2)
       by_op (Gain coefficient param) adds a b =
-          conv (value_of inputs 0 *ℤ coefficient) a.0 a.2 (same_frac (value_of inputs 0 *ℤ coefficient) (value_of inputs 0 *ℤ coefficient) b.0 a.0 operation.result operation.rounding operation.saturate s refl (b.1.frac ∙ sym a.1.frac) b.2)
+          conv (value_of inputs 0 *ℤ coefficient) a.0 a.2
+          (same_frac (value_of inputs 0 *ℤ coefficient)
+          (value_of inputs 0 *ℤ coefficient) b.0 a.0 operation.result operation.rounding operation.saturate
+          s refl (b.1.frac ∙ sym a.1.frac) b.2)
       by_op Product adds a b =
-          conv (value_of inputs 0 *ℤ value_of inputs 1) a.0 a.2 (same_frac (value_of inputs 0 *ℤ value_of inputs 1) (value_of inputs 0 *ℤ value_of inputs 1) b.0 a.0 operation.result operation.rounding operation.saturate s refl (b.1.frac ∙ sym a.1.frac) b.2)
+          conv (value_of inputs 0 *ℤ value_of inputs 1) a.0 a.2
+          (same_frac (value_of inputs 0 *ℤ value_of inputs 1)
+          (value_of inputs 0 *ℤ value_of inputs 1) b.0 a.0 operation.result operation.rounding
+          operation.saturate s refl (b.1.frac ∙ sym a.1.frac) b.2)
       by_op (Switch criterion threshold) adds a b = by_test (meets criterion threshold (value_of inputs 1)) a b
         where
           by_test : (test : Bool) → MatchBool test (IsConverted operation (value_of inputs 0) (type_of operation.types 0) r) (IsConverted operation (value_of inputs 2) (type_of operation.types 2) r)
@@ -93,7 +107,9 @@ module _ (conversion : ConversionGivesOne) where
       by_op (Relational operator) adds a b = a ∙ sym b
       by_op (Logic gate) adds a b = a ∙ sym b
       by_op (Convert false) adds a b = conv (value_of inputs 0) (type_of operation.types 0) a b
-      by_op (Convert true) adds a b = converts_one (value_of inputs 0) (without_frac (type_of operation.types 0)) (without_frac operation.result) operation.rounding operation.saturate r s (without_valid operation.result t) a b
+      by_op (Convert true) adds a b = converts_one (value_of inputs 0) (without_frac (type_of operation.types 0))
+          (without_frac operation.result) operation.rounding operation.saturate r s
+          (without_valid operation.result t) a b
       by_op Pass adds a b = a ∙ sym b
 
   some_number : (operation : Operation) (values : List ℤ) → CanCarryOut operation values → (r : ℤ) × OpGives operation values r × InRange operation.result r
@@ -102,7 +118,9 @@ module _ (conversion : ConversionGivesOne) where
       conv : (v : ℤ) (from : FxType) → (r : ℤ) × IsConverted operation v from r × InRange operation.result r
       conv v from = converts_some v from operation.result operation.rounding operation.saturate can.prepared.result
 
-      by_op : (op : Op) → HasArity op (length operation.types) → HasParameters op operation.types → HasResultType op operation.types operation.result → HasFullType op operation.signs operation.types → (r : ℤ) × Gives op operation operation.types values r × InRange operation.result r
+      by_op : (op : Op) → HasArity op (length operation.types) → HasParameters op operation.types
+          → HasResultType op operation.types operation.result → HasFullType op operation.signs operation.types
+          → (r : ℤ) × Gives op operation operation.types values r × InRange operation.result r
       by_op (Sum None) arity has result full = let r = conv (signed_sum (frac_of full.0) (zip operation.signs operation.types) values) full.0 in (r.0, (full.0, full.1, r.1), r.2)
       by_op (Sum (Some accum)) arity has result full =
           let last = added_some operation accum (zip operation.signs operation.types) values (pos 0) has full in
@@ -112,20 +130,37 @@ module _ (conversion : ConversionGivesOne) where
       by_op Product arity has result full = let r = conv (value_of values 0 *ℤ value_of values 1) full.0 in (r.0, (full.0, full.1, r.1), r.2)
       by_op (Switch criterion threshold) arity has result full = go (meets criterion threshold (value_of values 1))
         where
-          go : (test : Bool) → (r : ℤ) × MatchBool test (IsConverted operation (value_of values 0) (type_of operation.types 0) r) (IsConverted operation (value_of values 2) (type_of operation.types 2) r) × InRange operation.result r
+          go : (test : Bool) → (r : ℤ) × MatchBool test
+              (IsConverted operation (value_of values 0) (type_of operation.types 0) r)
+              (IsConverted operation (value_of values 2) (type_of operation.types 2) r)
+              × InRange operation.result r
           go true = conv (value_of values 0) (type_of operation.types 0)
           go false = conv (value_of values 2) (type_of operation.types 2)
       by_op (Relational operator) arity has result full =
           let r = compares_values operator (type_of operation.types 0) (type_of operation.types 1) (value_of values 0) (value_of values 1) in
           (stored_truth r, refl, subst (λ (type : FxType). InRange type (stored_truth r)) (sym result) (truth_range r))
-      by_op (Logic gate) arity has result full = (stored_truth (gate_of gate values), refl, subst (λ (type : FxType). InRange type (stored_truth (gate_of gate values))) (sym result) (truth_range (gate_of gate values)))
+      by_op (Logic gate) arity has result full = (
+        stored_truth (gate_of gate values),
+        refl,
+        subst (λ (type : FxType). InRange type (stored_truth (gate_of gate values))) (sym result)
+            (truth_range (gate_of gate values)),
+      )
       by_op (Convert false) arity has result full = conv (value_of values 0) (type_of operation.types 0)
       by_op (Convert true) arity has result full =
-          let r = converts_some (value_of values 0) (without_frac (type_of operation.types 0)) (without_frac operation.result) operation.rounding operation.saturate (without_valid operation.result can.prepared.result) in
+          let r = converts_some (value_of values 0) (without_frac (type_of operation.types 0))
+          (without_frac operation.result) operation.rounding operation.saturate
+          (without_valid operation.result can.prepared.result) in
           (r.0, r.1, without_range operation.result r.0 r.2)
       by_op Pass arity has result full = (value_of values 0, refl, subst (λ (type : FxType). InRange type (value_of values 0)) (sym result) (can.values.in_range 0 (omega (arith, arity))))
 
   pub exactly_one : OperationGivesOne
   exactly_one operation inputs can =
       let r = some_number operation inputs can in
-      record { number = r.0; given = r.1; in_range = r.2; only = λ other p. at_most_one operation inputs other r.0 can.prepared.result (λ accum e. subst (λ (op : Op). HasParameters op operation.types) e can.prepared.parameters) p r.1 }
+      record {
+        number = r.0;
+        given = r.1;
+        in_range = r.2;
+        only =
+            λ other p. at_most_one operation inputs other r.0 can.prepared.result
+            (λ accum e. subst (λ (op : Op). HasParameters op operation.types) e can.prepared.parameters) p r.1;
+      }

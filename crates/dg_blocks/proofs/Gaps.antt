@@ -7,7 +7,9 @@ use Rattle.fx_type.specs.FxType.{IsType, frac_of}
 use Rattle.fx_type.proofs.Ranges.{frac_bounds}
 use Rattle.math_num.proofs.Integers.{gap_is}
 
-module _ (kind : FxType) (frac own : ℤ) (valid : IsType kind) (fits : FitsSigned w16 frac) (own_fits : FitsSigned w16 own) (is : own ≡ frac_of kind) (above : frac_of kind ≤ℤ frac) (high : frac ≤ℤ pos 128) where
+module _ (kind : FxType) (frac own : ℤ) (valid : IsType kind) (fits : FitsSigned w16 frac)
+    (own_fits : FitsSigned w16 own) (is : own ≡ frac_of kind) (above : frac_of kind ≤ℤ frac)
+    (high : frac ≤ℤ pos 128) where
   pub difference_is : to_z w16 (of_z w16 frac) -ℤ to_z w16 (of_z w16 own) ≡ frac -ℤ frac_of kind
   difference_is = rw (to_z-of_z w16 frac fits, to_z-of_z w16 own own_fits, is) refl
 

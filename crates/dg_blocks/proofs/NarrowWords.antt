@@ -1,5 +1,6 @@
 -- A prepared conversion in 64 bits gives the conversion.
-use Rattle.std.proofs.Common.{◌≡◌, ℕ, zero, suc, ◌+◌, ◌-◌, ◌^◌, ◌≤◌, Bool, true, false, ℤ, pos, negsuc, neg_ℤ, ◌+ℤ◌, ◌*ℤ◌, ◌≤ℤ◌, FitsSigned, ap, sym, ◌∙◌, refl, subst, subst₂, arith, pow_pos, pow_mono, mul-le-mul, div-le_self, unsigned_abs, bit_and, mod-lt, to_z, of_z, ◌*◌, ◌%◌, ◌<◌, ◌-ℤ◌, cond, int_lt}
+use Rattle.std.proofs.Common.{◌≡◌, ℕ, zero, suc, ◌+◌, ◌-◌, ◌^◌, ◌≤◌, Bool, true, false, ℤ, pos, negsuc, neg_ℤ, ◌+ℤ◌, ◌*ℤ◌, ◌≤ℤ◌, FitsSigned, ap, sym, ◌∙◌, refl, subst, subst₂, arith, pow_pos}
+use Rattle.std.proofs.Common.{pow_mono, mul-le-mul, div-le_self, unsigned_abs, bit_and, mod-lt, to_z, of_z, ◌*◌, ◌%◌, ◌<◌, ◌-ℤ◌, cond, int_lt}
 use Rattle.std.specs.Int.{w64, w128, int_max, int_min}
 use Rattle.std.specs.Int.Signed.{shr_z}
 use Rattle.std.proofs.lemmas.Nat.{one_shl, pow-add, and_mask}
@@ -39,7 +40,9 @@ ends_apart (Num false w f) valid number = omega (arith, ints, pow_pos w)
 ends_apart Logical valid number = elim number [ ]
 
 pub ends_near : (to : FxType) → IsType to → IsNumber to → width_of to ≤ 60 → (neg_ℤ (pos (2 ^ 60)) ≤ℤ lowest_of to) × (lowest_of to ≤ℤ pos 0) × (highest_of to ≤ℤ pos (2 ^ 60))
-ends_near (Num true w f) valid number few = let k : w - 1 ≤ 60 = omega (arith, few) in let p : 2 ^ (w - 1) ≤ 2 ^ 60 = pow_mono k in (omega (arith, ints, p), omega (arith, ints, p), omega (arith, ints, p))
+ends_near (Num true w f) valid number few = let k : w - 1 ≤ 60 = omega (arith, few) in
+    let p : 2 ^ (w - 1) ≤ 2 ^ 60 = pow_mono k in
+    (omega (arith, ints, p), omega (arith, ints, p), omega (arith, ints, p))
 ends_near (Num false w f) valid number few = let p : 2 ^ w ≤ 2 ^ 60 = pow_mono few in (omega (arith, ints, p), omega (arith, ints, p), omega (arith, ints, p))
 ends_near Logical valid number few = elim number [ ]
 
@@ -104,9 +107,19 @@ shifted_modest (negsuc n) by h = let q = div-le_self n (2 ^ by) in record { low 
 exact_one : (mode : Rounding) (r : ℤ) → Rounds mode (r *ℤ pos 1) 1 r
 exact_one Floor r = record { at_most = omega (arith, ints); next_above = omega (arith, ints) }
 exact_one Ceiling r = record { at_least = omega (arith, ints); previous_below = omega (arith, ints) }
-exact_one Zero r = record { not_negative = λ _. record { at_most = omega (arith, ints); next_above = omega (arith, ints) }; negative = λ _. record { at_least = omega (arith, ints); previous_below = omega (arith, ints) } }
+exact_one Zero r = record {
+  not_negative =
+      λ _. record { at_most = omega (arith, ints); next_above = omega (arith, ints) };
+  negative =
+      λ _. record { at_least = omega (arith, ints); previous_below = omega (arith, ints) };
+}
 exact_one Nearest r = record { above = omega (arith, ints); at_most = omega (arith, ints) }
-exact_one Round r = record { not_negative = λ _. record { above = omega (arith, ints); at_most = omega (arith, ints) }; negative = λ _. record { at_least = omega (arith, ints); below = omega (arith, ints) } }
+exact_one Round r = record {
+  not_negative =
+      λ _. record { above = omega (arith, ints); at_most = omega (arith, ints) };
+  negative =
+      λ _. record { at_least = omega (arith, ints); below = omega (arith, ints) };
+}
 exact_one Convergent r = record { at_least = omega (arith, ints); at_most = omega (arith, ints); even_below = λ e. absurd (omega (arith, ints, e)); even_above = λ e. absurd (omega (arith, ints, e)) }
 
 whole_mode : (mode : Rounding) (n r : ℤ) → RoundsDown n 1 r → Rounds mode n 1 r
@@ -168,7 +181,9 @@ ends_kept width signed low high small low_fits high_fits low_is high_is =
     )
 
 -- a way of a conversion with the same shifts and bias
-pub same_way : (way : Way) (narrow other : Narrow) → other.scale ≡ narrow.scale → other.down ≡ narrow.down → other.bias ≡ narrow.bias → other.below ≡ narrow.below → other.even ≡ narrow.even → other.saturate ≡ narrow.saturate
+pub same_way : (way : Way) (narrow other : Narrow) → other.scale ≡ narrow.scale → other.down ≡ narrow.down
+    → other.bias ≡ narrow.bias → other.below ≡ narrow.below → other.even ≡ narrow.even
+    → other.saturate ≡ narrow.saturate
     → IsWay way narrow → IsWay way other
 same_way Exact narrow other scale down bias below even saturate is = down ∙ is
 same_way Wraps narrow other scale down bias below even saturate is = (record { scale = scale ∙ is.0.scale; below = below ∙ is.0.below ∙ sym bias; even = even ∙ is.0.even }, saturate ∙ is.1)
@@ -220,7 +235,9 @@ room_up bits up v h within =
     }
 
 -- a number that a shift up leaves in range
-pub reached : (to : FxType) (bits up : ℕ) (low high v : ℤ) → IsType to → IsNumber to → low ≡ lowest_of to → high ≡ highest_of to → ReachesBelow low (bits + up) → IsWithin bits v → (low ≤ℤ (v *ℤ pos (2 ^ up))) × ((v *ℤ pos (2 ^ up)) ≤ℤ high)
+pub reached : (to : FxType) (bits up : ℕ) (low high v : ℤ) → IsType to → IsNumber to → low ≡ lowest_of to
+    → high ≡ highest_of to → ReachesBelow low (bits + up) → IsWithin bits v
+    → (low ≤ℤ (v *ℤ pos (2 ^ up))) × ((v *ℤ pos (2 ^ up)) ≤ℤ high)
 reached (Num true w f) bits up low high v valid number low_is high_is reaches within =
     let e : 2 ^ (bits + up) ≡ 2 ^ bits * 2 ^ up = pow-add 2 bits up in
     let n : neg_ℤ (pos (2 ^ bits)) *ℤ pos (2 ^ up) ≡ neg_ℤ (pos (2 ^ bits) *ℤ pos (2 ^ up)) = scaled-neg (pos (2 ^ bits)) (2 ^ up) in (
@@ -298,7 +315,9 @@ bias_within mode down bias below even low high is =
     let some = pow_pos (down - 1) in
     by_mode (2 ^ down) (omega (arith, two, some)) (pow_mono high) mode bias below even is
 
-pub bias_range : (narrow : Narrow) (frac : ℤ) (to : FxType) (mode : Rounding) (v : ℤ) → HasShifts narrow frac to mode → (pos 0 ≤ℤ bias_for v narrow.bias narrow.below) × (bias_for v narrow.bias narrow.below ≤ℤ pos (2 ^ 60))
+pub bias_range : (narrow : Narrow) (frac : ℤ) (to : FxType) (mode : Rounding) (v : ℤ)
+    → HasShifts narrow frac to mode → (pos 0 ≤ℤ bias_for v narrow.bias narrow.below)
+    × (bias_for v narrow.bias narrow.below ≤ℤ pos (2 ^ 60))
 bias_range narrow frac to mode v shifts = go (int_lt v (pos 0))
   where
     go : (negative : Bool) → (pos 0 ≤ℤ cond negative narrow.below narrow.bias) × (cond negative narrow.below narrow.bias ≤ℤ pos (2 ^ 60))

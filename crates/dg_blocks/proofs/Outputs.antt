@@ -26,7 +26,8 @@ taken_within true bits v w p q = p
 taken_within false bits v w p q = q
 
 -- the conversion of what a Switch takes
-taken_gives : (test : Bool) (operation : Operation) (v w r : ℤ) (a b : FxType) (narrow : Narrow) → frac_of b ≡ frac_of a → IsNarrow narrow (frac_of a) operation.result operation.rounding operation.saturate
+taken_gives : (test : Bool) (operation : Operation) (v w r : ℤ) (a b : FxType) (narrow : Narrow)
+    → frac_of b ≡ frac_of a → IsNarrow narrow (frac_of a) operation.result operation.rounding operation.saturate
     → ((from : FxType) → IsNarrow narrow (frac_of from) operation.result operation.rounding operation.saturate → Converts (cond test v w) from operation.result operation.rounding operation.saturate r)
     → MatchBool test (IsConverted operation v a r) (IsConverted operation w b r)
 taken_gives true operation v w r a b narrow e is h = h a is
@@ -81,7 +82,10 @@ module _ (operation : Operation) (inputs : List ℤ) (can : CanCarryOut operatio
     full : HasFullType Product operation.signs operation.types
     full = subst (λ (op : Op). HasFullType op operation.signs operation.types) is.0 can.prepared.full_type
 
-    pub times_gives : (r : ℤ) → ((from : FxType) → IsNarrow narrow (frac_of from) operation.result operation.rounding operation.saturate → Converts (value_of inputs 0 *ℤ value_of inputs 1) from operation.result operation.rounding operation.saturate r) → OpGives operation inputs r
+    pub times_gives : (r : ℤ) → ((from : FxType)
+        → IsNarrow narrow (frac_of from) operation.result operation.rounding operation.saturate
+        → Converts (value_of inputs 0 *ℤ value_of inputs 1) from operation.result operation.rounding
+        operation.saturate r) → OpGives operation inputs r
     times_gives r h =
         subst (λ (op : Op). Gives op operation operation.types inputs r) (sym is.0)
         (full.0, full.1, h full.0 (subst (λ (f : ℤ). IsNarrow narrow f operation.result operation.rounding operation.saturate) (sym full.1.frac) is.1.0))
@@ -117,7 +121,10 @@ module _ (operation : Operation) (inputs : List ℤ) (can : CanCarryOut operatio
     gain_full : HasFullType (Gain coefficient is.0) operation.signs operation.types
     gain_full = subst (λ (op : Op). HasFullType op operation.signs operation.types) is.1 can.prepared.full_type
 
-    pub scaled_gives : (r : ℤ) → ((from : FxType) → IsNarrow narrow (frac_of from) operation.result operation.rounding operation.saturate → Converts (value_of inputs 0 *ℤ coefficient) from operation.result operation.rounding operation.saturate r) → OpGives operation inputs r
+    pub scaled_gives : (r : ℤ) → ((from : FxType)
+        → IsNarrow narrow (frac_of from) operation.result operation.rounding operation.saturate
+        → Converts (value_of inputs 0 *ℤ coefficient) from operation.result operation.rounding
+        operation.saturate r) → OpGives operation inputs r
     scaled_gives r h =
         subst (λ (op : Op). Gives op operation operation.types inputs r) (sym is.1)
         (gain_full.0, gain_full.1, h gain_full.0 (subst (λ (f : ℤ). IsNarrow narrow f operation.result operation.rounding operation.saturate) (sym gain_full.1.frac) is.2.0))
@@ -141,7 +148,10 @@ module _ (operation : Operation) (inputs : List ℤ) (can : CanCarryOut operatio
     pub sum_room : HasPlace (signed_sum frac (zip operation.signs operation.types) inputs)
     sum_room = (magnitude_of is.0, is.5.1, whole_within frac operation.signs operation.types inputs summable)
 
-    pub sum_gives : (r : ℤ) → ((from : FxType) → IsNarrow narrow (frac_of from) operation.result operation.rounding operation.saturate → Converts (signed_sum frac (zip operation.signs operation.types) inputs) from operation.result operation.rounding operation.saturate r) → OpGives operation inputs r
+    pub sum_gives : (r : ℤ) → ((from : FxType)
+        → IsNarrow narrow (frac_of from) operation.result operation.rounding operation.saturate
+        → Converts (signed_sum frac (zip operation.signs operation.types) inputs) from operation.result
+        operation.rounding operation.saturate r) → OpGives operation inputs r
     sum_gives r h =
         let narrow_is = subst (λ (f : ℤ). IsNarrow narrow f operation.result operation.rounding operation.saturate) (sym is.3) is.5.0 in
         let converts = subst (λ (f : ℤ). IsConverted operation (signed_sum f (zip operation.signs operation.types) inputs) is.0 r) (sym is.3) (h is.0 narrow_is) in
@@ -157,8 +167,12 @@ module _ (operation : Operation) (inputs : List ℤ) (can : CanCarryOut operatio
     chosen_within : (test : Bool) → IsWithin is.3 (cond test (value_of inputs 0) (value_of inputs 2))
     chosen_within test =
         taken_within test is.3 (value_of inputs 0) (value_of inputs 2)
-        (more_bits (magnitude_of (type_of operation.types 0)) is.3 (value_of inputs 0) is.4 (range_within (type_of operation.types 0) (value_of inputs 0) (can.prepared.types 0 _ (omega (arith, three))) (can.values.in_range 0 (omega (arith, three)))))
-        (more_bits (magnitude_of (type_of operation.types 2)) is.3 (value_of inputs 2) is.5 (range_within (type_of operation.types 2) (value_of inputs 2) (can.prepared.types 2 _ (omega (arith, three))) (can.values.in_range 2 (omega (arith, three)))))
+        (more_bits (magnitude_of (type_of operation.types 0)) is.3 (value_of inputs 0) is.4
+        (range_within (type_of operation.types 0) (value_of inputs 0)
+        (can.prepared.types 0 _ (omega (arith, three))) (can.values.in_range 0 (omega (arith, three)))))
+        (more_bits (magnitude_of (type_of operation.types 2)) is.3 (value_of inputs 2) is.5
+        (range_within (type_of operation.types 2) (value_of inputs 2)
+        (can.prepared.types 2 _ (omega (arith, three))) (can.values.in_range 2 (omega (arith, three)))))
 
     pub chosen_fits : (test : Bool) (v : ℤ) → v ≡ cond test (value_of inputs 0) (value_of inputs 2) → FitsSigned w64 v
     chosen_fits test v e = whole_fits is.3 v is.7.1.bits_below (subst (IsWithin is.3) (sym e) (chosen_within test))
@@ -167,7 +181,10 @@ module _ (operation : Operation) (inputs : List ℤ) (can : CanCarryOut operatio
     chosen_room test v e = (is.3, is.7.1, subst (IsWithin is.3) (sym e) (chosen_within test))
 
     pub chosen_gives : (op : Op) → operation.op ≡ op → (criterion : Criterion) (threshold r : ℤ) → op ≡ Switch criterion threshold
-        → ((from : FxType) → IsNarrow narrow (frac_of from) operation.result operation.rounding operation.saturate → Converts (cond (meets criterion threshold (value_of inputs 1)) (value_of inputs 0) (value_of inputs 2)) from operation.result operation.rounding operation.saturate r) → OpGives operation inputs r
+        → ((from : FxType) → IsNarrow narrow (frac_of from) operation.result operation.rounding operation.saturate
+        → Converts (cond (meets criterion threshold (value_of inputs 1)) (value_of inputs 0)
+        (value_of inputs 2)) from operation.result operation.rounding operation.saturate r)
+        → OpGives operation inputs r
     chosen_gives op is_op criterion threshold r is_switch h =
         subst (λ (own : Op). Gives own operation operation.types inputs r) (sym (is_op ∙ is_switch))
         (taken_gives (meets criterion threshold (value_of inputs 1)) operation (value_of inputs 0) (value_of inputs 2) r (type_of operation.types 0) (type_of operation.types 2) narrow is.6 is.7.0 h)

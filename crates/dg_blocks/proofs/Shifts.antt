@@ -1,5 +1,6 @@
 -- Shifts down in 64 bits, with a bias before, round as the modes do.
-use Rattle.std.proofs.Common.{◌≡◌, ℕ, suc, ◌+◌, ◌-◌, ◌/◌, ◌%◌, ◌^◌, Bool, true, false, true≢false, ℤ, pos, negsuc, neg_ℤ, ◌+ℤ◌, ◌*ℤ◌, bit_and, to_z, of_z, FitsSigned, ap, sym, ◌∙◌, refl, subst, arith, lt_of_le_of_lt, cond, int_lt}
+use Rattle.std.proofs.Common.{◌≡◌, ℕ, suc, ◌+◌, ◌-◌, ◌/◌, ◌%◌, ◌^◌, Bool, true, false, true≢false, ℤ, pos, negsuc, neg_ℤ, ◌+ℤ◌, ◌*ℤ◌, bit_and, to_z, of_z, FitsSigned, ap, sym, ◌∙◌, refl, subst, arith}
+use Rattle.std.proofs.Common.{lt_of_le_of_lt, cond, int_lt}
 use Rattle.std.specs.Int.{w64}
 use Rattle.std.specs.Int.Signed.{shr_z, mag_shr}
 use Rattle.std.proofs.lemmas.Int.{ints}
@@ -56,13 +57,23 @@ module _ (n bias : ℤ) (even : Bool) (d : ℕ) (r : ℤ) (shifted : IsShifted n
     at_least = omega (arith, ints, e, t.low, s.next_above);
     at_most = omega (arith, ints, e, t.high, s.at_most);
     even_below = λ h.
-        let same = floors_one n d shifted.lower r shifted.floors (record { at_most = omega (arith, ints, e, h, s.at_most, s.next_above); next_above = omega (arith, ints, e, h, s.at_most, s.next_above) }) in
+        let same = floors_one n d shifted.lower r shifted.floors
+        (record {
+          at_most = omega (arith, ints, e, h, s.at_most, s.next_above);
+          next_above =
+              omega (arith, ints, e, h, s.at_most, s.next_above);
+        }) in
         subst IsEven same (t.stays k (omega (arith, ints, e, h, t.low, t.high, s.next_above)));
     even_above = λ h.
         let q = r +ℤ negsuc 0 in
         let back : q +ℤ pos 1 ≡ r = omega (arith, ints) in
         let scaled : r *ℤ pos d ≡ q *ℤ pos d +ℤ pos d = ap (λ (z : ℤ). z *ℤ pos d) (sym back) ∙ next-scaled q d in
-        let same = floors_one n d shifted.lower q shifted.floors (record { at_most = omega (arith, ints, e, h, scaled, s.at_most, s.next_above); next_above = omega (arith, ints, e, h, scaled, s.at_most, s.next_above) }) in
+        let same = floors_one n d shifted.lower q shifted.floors
+        (record {
+          at_most = omega (arith, ints, e, h, scaled, s.at_most, s.next_above);
+          next_above =
+              omega (arith, ints, e, h, scaled, s.at_most, s.next_above);
+        }) in
         subst IsEven (ap (λ (z : ℤ). z +ℤ pos 1) same ∙ back) (t.goes k (omega (arith, ints, e, h, t.low, t.high, s.at_most)));
   }
     where

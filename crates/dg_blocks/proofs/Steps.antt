@@ -32,7 +32,9 @@ value_drop (v ∷ inputs) zero d inside = refl
 value_drop (v ∷ inputs) (suc i) d inside = value_drop inputs i d (omega arith)
 
 -- one input more
-pub one_added : (operation : Operation) (accum : FxType) (inputs : List ℤ) (i : ℕ) (total after : ℤ) → i < length operation.types → length operation.signs ≡ length operation.types → length inputs ≡ length operation.types
+pub one_added : (operation : Operation) (accum : FxType) (inputs : List ℤ) (i : ℕ) (total after : ℤ)
+    → i < length operation.types → length operation.signs ≡ length operation.types
+    → length inputs ≡ length operation.types
     → AreAdded operation accum inputs i total → InRange accum after → IsStep operation accum (get_or operation.signs i false, type_of operation.types i) (value_of inputs i) total after
     → AreAdded operation accum inputs (i + 1) after
 one_added operation accum inputs i total after inside same count before range step = record {
@@ -40,7 +42,9 @@ one_added operation accum inputs i total after inside same count before range st
   rest = λ last h.
       let terms = zip operation.signs operation.types in
       let now = rw add-one at h in
-      let more : IsAddedUp operation accum ((get_or operation.signs i false, type_of operation.types i) ∷ drop (suc i) terms) (value_of inputs i ∷ drop (suc i) inputs) total last = (after, step, now) in
+      let more : IsAddedUp operation accum
+      ((get_or operation.signs i false, type_of operation.types i) ∷ drop (suc i) terms)
+      (value_of inputs i ∷ drop (suc i) inputs) total last = (after, step, now) in
       before.rest last (rw (zip_drop operation.signs operation.types i false (Num false 0 (pos 0)) inside same, value_drop inputs i (pos 0) (omega (arith, inside, count))) more);
 }
 

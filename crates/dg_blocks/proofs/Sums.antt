@@ -54,7 +54,9 @@ module _ (frac : ℤ) where
   }
 
   -- each term is possible
-  pub term_possible : (signs : List Bool) (types : List FxType) (inputs : List ℤ) → AreTypes types → EachInRange types inputs → length signs ≡ length types → length inputs ≡ length types → (k : ℕ) → k < length types
+  pub term_possible : (signs : List Bool) (types : List FxType) (inputs : List ℤ) → AreTypes types
+      → EachInRange types inputs → length signs ≡ length types → length inputs ≡ length types → (k : ℕ)
+      → k < length types
       → IsPossibleSum frac (zip signs types) (term_of frac (get_or signs k false) (type_of types k) (value_of inputs k))
   term_possible [] [] inputs valid range same_signs same k h = absurd (omega arith)
   term_possible [] (t ∷ types) inputs valid range same_signs same k h = absurd (omega arith)
@@ -77,7 +79,9 @@ module _ (frac : ℤ) where
 
   -- one more term
   pub sum_more : (signs : List Bool) (types : List FxType) (inputs : List ℤ) → length signs ≡ length types → length inputs ≡ length types → (k : ℕ) → k < length types
-      → signed_sum frac (take (suc k) (zip signs types)) (take (suc k) inputs) ≡ signed_sum frac (take k (zip signs types)) (take k inputs) +ℤ term_of frac (get_or signs k false) (type_of types k) (value_of inputs k)
+      → signed_sum frac (take (suc k) (zip signs types)) (take (suc k) inputs)
+      ≡ signed_sum frac (take k (zip signs types)) (take k inputs) +ℤ term_of frac (get_or signs k false)
+      (type_of types k) (value_of inputs k)
   sum_more [] [] inputs same_signs same k h = absurd (omega arith)
   sum_more [] (t ∷ types) inputs same_signs same k h = absurd (omega arith)
   sum_more (s ∷ signs) [] inputs same_signs same k h = absurd (omega arith)
@@ -87,7 +91,10 @@ module _ (frac : ℤ) where
       ap (λ z. term_of frac s t v +ℤ z) (sum_more signs types inputs (omega arith) (omega arith) k (omega arith))
       ∙ sym (+ℤ_assoc (term_of frac s t v) (signed_sum frac (take k (zip signs types)) (take k inputs)) (term_of frac (get_or signs k false) (type_of types k) (value_of inputs k)))
 
-module _ (frac : ℤ) (signs : List Bool) (types : List FxType) (inputs : List ℤ) (valid : AreTypes types) (range : EachInRange types inputs) (same_signs : length signs ≡ length types) (same : length inputs ≡ length types) (full : FxType) (is_full : IsFullSum (zip signs types) full) (is_frac : frac_of full ≡ frac) where
+module _ (frac : ℤ) (signs : List Bool) (types : List FxType) (inputs : List ℤ) (valid : AreTypes types)
+    (range : EachInRange types inputs) (same_signs : length signs ≡ length types)
+    (same : length inputs ≡ length types) (full : FxType) (is_full : IsFullSum (zip signs types) full)
+    (is_frac : frac_of full ≡ frac) where
   possible_fits : (total : ℤ) → IsPossibleSum frac (zip signs types) total → FitsSigned w128 total
   possible_fits total possible = InRange-fits full total is_full.valid (is_full.holds total (subst (λ (f : ℤ). IsPossibleSum f (zip signs types) total) (sym is_frac) possible))
 
@@ -101,14 +108,18 @@ module _ (frac : ℤ) (signs : List Bool) (types : List FxType) (inputs : List �
   frac_bound k d h = subst (λ (f : ℤ). frac_of (get_or types k d) ≤ℤ f) is_frac (bound_at (frac_of full) signs types is_full.frac.bound same_signs k d h)
 
 -- a bound of the types bounds the terms
-terms_bound : (g : ℤ) (signs : List Bool) (types : List FxType) → All (λ type. frac_of type ≤ℤ g) types → (k : ℕ) (term : Bool × FxType) → k < length (zip signs types) → frac_of (get_or (zip signs types) k term).1 ≤ℤ g
+terms_bound : (g : ℤ) (signs : List Bool) (types : List FxType) → All (λ type. frac_of type ≤ℤ g) types
+    → (k : ℕ) (term : Bool × FxType) → k < length (zip signs types)
+    → frac_of (get_or (zip signs types) k term).1 ≤ℤ g
 terms_bound g [] types bound k term h = absurd (omega arith)
 terms_bound g (s ∷ signs) [] bound k term h = absurd (omega arith)
 terms_bound g (s ∷ signs) (t ∷ types) bound zero term h = bound 0 t (omega arith)
 terms_bound g (s ∷ signs) (t ∷ types) bound (suc k) term h = terms_bound g signs types (λ k d h. bound (suc k) d (omega arith)) k term (omega arith)
 
 -- the greatest frac of the types is that of the full type
-pub full_frac : (g : ℤ) (signs : List Bool) (types : List FxType) (full : FxType) → length signs ≡ length types → IsFullSum (zip signs types) full → All (λ type. frac_of type ≤ℤ g) types → Any (λ type. frac_of type ≡ g) types → frac_of full ≡ g
+pub full_frac : (g : ℤ) (signs : List Bool) (types : List FxType) (full : FxType) → length signs ≡ length types
+    → IsFullSum (zip signs types) full → All (λ type. frac_of type ≤ℤ g) types
+    → Any (λ type. frac_of type ≡ g) types → frac_of full ≡ g
 full_frac g signs types full same is_full bound (k, type, below, is_type, is_frac) =
     let own = is_full.frac.reached
     in let no_less : frac_of type ≤ℤ frac_of full = rw is_type at (bound_at (frac_of full) signs types is_full.frac.bound same k type below)

@@ -19,7 +19,8 @@ EachInRange [] values = ⊤
 EachInRange (t ∷ types) [] = ⊤
 EachInRange (t ∷ types) (v ∷ values) = InRange t v × EachInRange types values
 
-all_in_range : (types : List FxType) (values : List ℤ) → length values ≡ length types → EachInRange types values → (input : ℕ) → input < length types → InRange (type_of types input) (value_of values input)
+all_in_range : (types : List FxType) (values : List ℤ) → length values ≡ length types → EachInRange types values
+    → (input : ℕ) → input < length types → InRange (type_of types input) (value_of values input)
 all_in_range [] values same each k h = absurd (omega arith)
 all_in_range (t ∷ types) [] same each k h = absurd (omega arith)
 all_in_range (t ∷ types) (v ∷ values) same each zero h = each.0

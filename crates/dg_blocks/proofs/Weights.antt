@@ -33,7 +33,10 @@ module _ (frac : ℤ) (signs : List Bool) (types : List FxType) (inputs : List �
   pub value_fits : (k : ℕ) → k < length inputs → FitsSigned w64 (value_of inputs k)
   value_fits k h =
       let below = inside k h in
-      whole_fits (magnitude_of (type_of types k)) (value_of inputs k) (short_magnitude (type_of types k) (sum.short k _ below).width) (range_within (type_of types k) (value_of inputs k) (sum.types_valid k _ below) (sum.values.in_range k below))
+      whole_fits (magnitude_of (type_of types k)) (value_of inputs k)
+      (short_magnitude (type_of types k) (sum.short k _ below).width)
+      (range_within (type_of types k) (value_of inputs k) (sum.types_valid k _ below)
+      (sum.values.in_range k below))
 
   pub aligned_small : (k : ℕ) → k < length inputs → IsSmall (aligned frac (type_of types k) (value_of inputs k))
   aligned_small k h =
@@ -41,7 +44,10 @@ module _ (frac : ℤ) (signs : List Bool) (types : List FxType) (inputs : List �
       let term = term_of frac (get_or signs k false) (type_of types k) (value_of inputs k) in
       without_sign (get_or signs k false) (aligned frac (type_of types k) (value_of inputs k)) (small_of (magnitude_of sum.full) term sum.bits (possible_within term possible))
 
-  pub sum_step : (k : ℕ) → k < length inputs → signed_sum frac (take k (zip signs types)) (take k inputs) +ℤ term_of frac (get_or signs k false) (type_of types k) (value_of inputs k) ≡ signed_sum frac (take (suc k) (zip signs types)) (take (suc k) inputs)
+  pub sum_step : (k : ℕ) → k < length inputs
+      → signed_sum frac (take k (zip signs types)) (take k inputs) +ℤ term_of frac (get_or signs k false)
+      (type_of types k) (value_of inputs k)
+      ≡ signed_sum frac (take (suc k) (zip signs types)) (take (suc k) inputs)
   sum_step k h = sym (sum_more frac signs types inputs sum.signs_length sum.values.count k (inside k h))
 
   part_within : (k : ℕ) → IsWithin (magnitude_of sum.full) (signed_sum frac (take k (zip signs types)) (take k inputs))
@@ -54,7 +60,9 @@ module _ (frac : ℤ) (signs : List Bool) (types : List FxType) (inputs : List �
   pub all_of : (k : ℕ) → length inputs ≤ k → signed_sum frac (take k (zip signs types)) (take k inputs) ≡ signed_sum frac (zip signs types) inputs
   all_of k h =
       let count : length (zip signs types) ≤ k = omega (arith, length-zip signs types, sum.signs_length, sum.values.count, h) in
-      ap (λ (terms : List (Bool × FxType)). signed_sum frac terms (take k inputs)) (take_all k (zip signs types) count) ∙ ap (λ (values : List ℤ). signed_sum frac (zip signs types) values) (take_all k inputs h)
+      ap (λ (terms : List (Bool × FxType)). signed_sum frac terms (take k inputs))
+      (take_all k (zip signs types) count)
+      ∙ ap (λ (values : List ℤ). signed_sum frac (zip signs types) values) (take_all k inputs h)
 
   pub whole_within : IsWithin (magnitude_of sum.full) (signed_sum frac (zip signs types) inputs)
   whole_within = subst (IsWithin (magnitude_of sum.full)) (all_of (length inputs) (omega arith)) (part_within (length inputs))

@@ -44,7 +44,9 @@ module _ (period : Option ℕ) where
   hits_past zero h more e = absurd (none_has h more e)
   hits_past (suc t) h more e = go (is_hit period t) refl (hits_past t) e
     where
-      go : (hit : Bool) → is_hit period t ≡ hit → Past (hits_before period) t → (if hit then t ∷ hits_before period t else hits_before period t) ≡ h ∷ more → (hits_before period h ≡ more) × (h < suc t) × Hits period h
+      go : (hit : Bool) → is_hit period t ≡ hit → Past (hits_before period) t
+          → (if hit then t ∷ hits_before period t else hits_before period t) ≡ h ∷ more
+          → (hits_before period h ≡ more) × (h < suc t) × Hits period h
       go true is past e = here (hits_before period) t is h more e
       go false is past e = there (hits_before period) t past h more e
 
@@ -55,16 +57,23 @@ module _ (period : Option ℕ) where
   filtered_past test zero h more e = absurd (none_has h more e)
   filtered_past test (suc t) h more e = go (is_hit period t) (test t) refl refl (filtered_past test t) e
     where
-      go : (hit enabled : Bool) → is_hit period t ≡ hit → test t ≡ enabled → Past (kept test) t → filter test (if hit then t ∷ hits_before period t else hits_before period t) ≡ h ∷ more → (filter test (hits_before period h) ≡ more) × (h < suc t) × Hits period h
+      go : (hit enabled : Bool) → is_hit period t ≡ hit → test t ≡ enabled → Past (kept test) t
+          → filter test (if hit then t ∷ hits_before period t else hits_before period t) ≡ h ∷ more
+          → (filter test (hits_before period h) ≡ more) × (h < suc t) × Hits period h
       go false enabled is on past e = there (kept test) t past h more e
       go true true is on past e = here (kept test) t is h more (sym (ap (λ (b : Bool). cond b (t ∷ kept test t) (kept test t)) on) ∙ e)
       go true false is on past e = there (kept test) t past h more (sym (ap (λ (b : Bool). cond b (t ∷ kept test t) (kept test t)) on) ∙ e)
 
-  since_past : (table : Table) (control : ℕ) (t h : ℕ) (more : List ℕ) → hits_since_enabled table control period t ≡ h ∷ more → (hits_since_enabled table control period h ≡ more) × (h < t) × Hits period h
+  since_past : (table : Table) (control : ℕ) (t h : ℕ) (more : List ℕ)
+      → hits_since_enabled table control period t ≡ h ∷ more
+      → (hits_since_enabled table control period h ≡ more) × (h < t) × Hits period h
   since_past table control zero h more e = absurd (none_has h more e)
   since_past table control (suc t) h more e = go (is_hit period t) (is_enabled_at table control t) refl (since_past table control t) e
     where
-      go : (hit enabled : Bool) → is_hit period t ≡ hit → Past (hits_since_enabled table control period) t → (if hit then (if enabled then t ∷ hits_since_enabled table control period t else []) else hits_since_enabled table control period t) ≡ h ∷ more → (hits_since_enabled table control period h ≡ more) × (h < suc t) × Hits period h
+      go : (hit enabled : Bool) → is_hit period t ≡ hit → Past (hits_since_enabled table control period) t
+          → (if hit then (if enabled then t ∷ hits_since_enabled table control period t else []) else
+          hits_since_enabled table control period t) ≡ h ∷ more
+          → (hits_since_enabled table control period h ≡ more) × (h < suc t) × Hits period h
       go false enabled is past e = there (hits_since_enabled table control period) t past h more e
       go true true is past e = here (hits_since_enabled table control period) t is h more e
       go true false is past e = absurd (none_has h more e)

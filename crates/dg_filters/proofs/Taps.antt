@@ -1,5 +1,6 @@
 -- What the taps of a filter hold, by the number of the tap.
-use Rattle.std.proofs.Common.{◌≡◌, ℕ, zero, suc, ◌+◌, ◌-◌, ◌<◌, ◌≤◌, Bool, true, false, cond, ℤ, List, [], ◌∷◌, length, Option, Some, None, slice_get, MatchOption, ◌==◌, pos, ap, sym, ◌∙◌, subst, refl, arith}
+use Rattle.std.proofs.Common.{◌≡◌, ℕ, zero, suc, ◌+◌, ◌-◌, ◌<◌, ◌≤◌, Bool, true, false, cond, ℤ, List, [], ◌∷◌, length, Option, Some, None, slice_get, MatchOption, ◌==◌, pos, ap, sym, ◌∙◌, subst}
+use Rattle.std.proofs.Common.{refl, arith}
 use Rattle.std.proofs.lemmas.Option.{MatchOption-at_some}
 use Rattle.fx_type.specs.declared.decimal.Decimal.{Decimal}
 use Rattle.fx_type.specs.declared.kind.FxType.{FxType}
@@ -59,7 +60,8 @@ module _ (diagram : Diagram) (attributes : Attributes) (stimulus : Stimulus) (n 
     Held k element t = IsHeld attributes table first taps (counted t) element t k (shown_to attributes table (tap first k) element t)
 
     -- what a delay shows at a hit
-    module _ (k element t : ℕ) (inside : suc k < length taps.coefficients) (below : element < width) (early : t < n) (hit : Hits period t) (value : Decimal) (value_is : slice_get taps.initial k ≡ Some value) where
+    module _ (k element t : ℕ) (inside : suc k < length taps.coefficients) (below : element < width) (early : t < n)
+        (hit : Hits period t) (value : Decimal) (value_is : slice_get taps.initial k ≡ Some value) where
       abbrev place : ℕ
       place = tap first (suc k)
 
@@ -113,21 +115,31 @@ module _ (diagram : Diagram) (attributes : Attributes) (stimulus : Stimulus) (n 
           fed ∙ ap (λ (s : ℕ). table (tap first k) 1 s h) e
 
       next : ((h : ℕ) → h < n → Hits period h → Held k element h) → Held (suc k) element t
-      next before = go (counted t) refl (subst (λ (hits : List ℕ). IsInputAt diagram attributes stimulus table place (value ∷ []) served (slice_get hits 0) (table place 1 served t)) counted_is equation)
+      next before = go (counted t) refl (subst
+          (λ (hits : List ℕ). IsInputAt diagram attributes stimulus table place (value ∷ []) served
+          (slice_get hits 0) (table place 1 served t)) counted_is equation)
         where
           go : (hits : List ℕ) → counted t ≡ hits → IsInputAt diagram attributes stimulus table place (value ∷ []) served (slice_get hits 0) (table place 1 served t)
               → IsHeld attributes table first taps hits element t (suc k) (table place 1 served t)
           go [] is given =
-              let stored : Stores value (attributes.type_at first 1) (table place 1 served t) = subst (λ (type : FxType). Stores value type (table place 1 served t)) (alike.types (suc k) inside) given in
+              let stored : Stores value (attributes.type_at first 1) (table place 1 served t) =
+              subst (λ (type : FxType). Stores value type (table place 1 served t))
+              (alike.types (suc k) inside) given in
               let number : suc k - 1 ≡ k = omega arith in
               subst (λ (o : Option Decimal). MatchOption o ⊥ (λ value. Stores value (attributes.type_at first 1) (table place 1 served t))) (sym (ap (slice_get taps.initial) number ∙ value_is)) stored
           go (h ∷ more) is given =
               let on = counted_go_on table enable reset period t h more is in
               let earlier = before h (omega (arith, on.earlier, early)) on.hit in
-              let same : IsHeld attributes table first taps more element h k (shown_to attributes table (tap first k) element h) = subst (λ (hits : List ℕ). IsHeld attributes table first taps hits element h k (shown_to attributes table (tap first k) element h)) on.before earlier in
+              let same : IsHeld attributes table first taps more element h k
+              (shown_to attributes table (tap first k) element h) =
+              subst (λ (hits : List ℕ). IsHeld attributes table first taps hits element h k
+              (shown_to attributes table (tap first k) element h)) on.before earlier in
               let number : suc k - suc (length (h ∷ more)) ≡ k - suc (length more) = omega arith in
               let moved : IsHeld attributes table first taps (h ∷ more) element t (suc k) (shown_to attributes table (tap first k) element h) =
-              subst (λ (p : ℕ). MatchOption (slice_get (h ∷ more) k) (MatchOption (slice_get taps.initial p) ⊥ (λ value. Stores value (attributes.type_at first 1) (shown_to attributes table (tap first k) element h)))
+              subst (λ (p : ℕ). MatchOption (slice_get (h ∷ more) k)
+              (MatchOption (slice_get taps.initial p) ⊥
+              (λ value. Stores value (attributes.type_at first 1)
+              (shown_to attributes table (tap first k) element h)))
               (λ hit. shown_to attributes table (tap first k) element h ≡ shown_to attributes table first element hit)) (sym number) same in
               subst (λ (v : ℤ). IsHeld attributes table first taps (h ∷ more) element t (suc k) v) (sym (given ∙ offered h)) moved
 

@@ -16,7 +16,8 @@ pub cell_below : (lengths : List ℕ) (row number : ℕ) → HasCell lengths row
 cell_below lengths row number has = omega (arith, sum_by_more_le (λ x. x) lengths row 0 has.there, has.above, has.within)
 
 -- two cells are one only where row and number are
-pub cells_apart : (lengths : List ℕ) (row number other n : ℕ) → HasCell lengths row number → HasCell lengths other n → cell_at lengths row number ≡ cell_at lengths other n → (row ≡ other) × (number ≡ n)
+pub cells_apart : (lengths : List ℕ) (row number other n : ℕ) → HasCell lengths row number → HasCell lengths other n
+    → cell_at lengths row number ≡ cell_at lengths other n → (row ≡ other) × (number ≡ n)
 cells_apart lengths row number other n has its same =
     elim (cases_eq row other) [
       | inl e ↦
@@ -30,13 +31,16 @@ cells_apart lengths row number other n has its same =
     ]
 
 -- a table of one value
-pub rows_filled : {X : Type 0} (lengths : List ℕ) (value : ℕ → ℕ → X) (x : X) (count : ℕ) → count ≡ sum lengths → ((row number : ℕ) → x ≡ value row number) → IsRowTable lengths value (replicate count x)
+pub rows_filled : {X : Type 0} (lengths : List ℕ) (value : ℕ → ℕ → X) (x : X) (count : ℕ) → count ≡ sum lengths
+    → ((row number : ℕ) → x ≡ value row number) → IsRowTable lengths value (replicate count x)
 rows_filled lengths value x count all same = record {
   size = length-replicate count x ∙ all;
   at = λ row number d has. get_or-replicate count (cell_at lengths row number) x d (omega (arith, cell_below lengths row number has, all)) ∙ same row number;
 }
 
-pub rows_same : {X : Type 0} (lengths : List ℕ) (value other : ℕ → ℕ → X) (table : List X) → ((row number : ℕ) → HasCell lengths row number → value row number ≡ other row number) → IsRowTable lengths value table → IsRowTable lengths other table
+pub rows_same : {X : Type 0} (lengths : List ℕ) (value other : ℕ → ℕ → X) (table : List X)
+    → ((row number : ℕ) → HasCell lengths row number → value row number ≡ other row number)
+    → IsRowTable lengths value table → IsRowTable lengths other table
 rows_same lengths value other table same is = record {
   size = is.size;
   at = λ row number d has. is.at row number d has ∙ same row number has;

@@ -25,7 +25,9 @@ pub around_below : (blocks : List NestedBlock) (system : Option ℕ) → HavePar
 around_below blocks None have within = within
 around_below blocks (Some system) have within = omega (arith, around_before blocks system have, within)
 
-pub control_settles : (blocks : List NestedBlock) → HaveParents blocks → (levels more : ℕ) (system : Option ℕ) → slot_of system < levels → slot_of system < more → control_within blocks levels system ≡ control_within blocks more system
+pub control_settles : (blocks : List NestedBlock) → HaveParents blocks → (levels more : ℕ) (system : Option ℕ)
+    → slot_of system < levels → slot_of system < more
+    → control_within blocks levels system ≡ control_within blocks more system
 control_settles blocks have zero more system below other = absurd (omega (arith, below))
 control_settles blocks have (suc levels) zero system below other = absurd (omega (arith, other))
 control_settles blocks have (suc levels) (suc more) system below other = go (enable_port blocks system) system below other (control_settles blocks have levels more) where
@@ -34,7 +36,9 @@ control_settles blocks have (suc levels) (suc more) system below other = go (ena
       control_else port system (control_within blocks levels) blocks ≡ control_else port system (control_within blocks more) blocks
   go (Some port) system below other settles = refl
   go None None below other settles = refl
-  go None (Some system) below other settles = settles (system_around blocks (Some system)) (omega (arith, around_before blocks system have, below)) (omega (arith, around_before blocks system have, other))
+  go None (Some system) below other settles =
+      settles (system_around blocks (Some system)) (omega (arith, around_before blocks system have, below))
+      (omega (arith, around_before blocks system have, other))
 
 -- the control of the System of a block, by that of the System which holds the block
 pub control_step : (blocks : List NestedBlock) (place : ℕ) (block : NestedBlock) → HaveParents blocks → slice_get blocks place ≡ Some block → place < length blocks →
@@ -92,7 +96,9 @@ controls_more blocks place controls noted inside is are = record {
   done = λ k d below.
       elim (cases_eq k (place + 1)) [
         | inl e ↦
-            let same : get_or (set controls (place + 1) noted) (place + 1) d ≡ control_of blocks (system_of (place + 1)) = get_or-set_same controls (place + 1) noted d (omega (arith, inside, are.size)) ∙ is in
+            let same : get_or (set controls (place + 1) noted) (place + 1) d
+            ≡ control_of blocks (system_of (place + 1)) =
+            get_or-set_same controls (place + 1) noted d (omega (arith, inside, are.size)) ∙ is in
             subst (λ (j : ℕ). get_or (set controls (place + 1) noted) j d ≡ control_of blocks (system_of j)) (sym e) same
         | inr n ↦ get_or-set_other controls (place + 1) k noted d n ∙ are.done k d (omega (arith, below, n))
       ];
@@ -100,7 +106,9 @@ controls_more blocks place controls noted inside is are = record {
       get_or-set_other controls (place + 1) k noted d (λ e. absurd (omega (arith, e, above))) ∙ are.later k d (omega (arith, above)) within;
 }
 
-pub controls_all : (blocks : List NestedBlock) (place : ℕ) (controls : List (Option ℕ)) → length blocks ≤ place → AreControlsTo blocks place controls → IsTable (suc (length blocks)) (λ slot. control_of blocks (system_of slot)) controls
+pub controls_all : (blocks : List NestedBlock) (place : ℕ) (controls : List (Option ℕ)) → length blocks ≤ place
+    → AreControlsTo blocks place controls
+    → IsTable (suc (length blocks)) (λ slot. control_of blocks (system_of slot)) controls
 controls_all blocks place controls whole are = record {
   size = are.size;
   at = λ k d below. are.done k d (omega (arith, below, whole));

@@ -119,11 +119,15 @@ pub marked_more : (blocks : List NestedBlock) (done : List NestedLine) (line : N
 marked_more blocks done line count table once from to once_is is =
     rw once_is (
     let before = mark_at count (is_lacking blocks done) table line.from (lacks_output blocks line) from is in
-    let both = mark_at count (λ k. is_lacking blocks done k || (eqb line.from k && lacks_output blocks line)) (set table line.from (get_or table line.from false || lacks_output blocks line)) line.to (lacks_input blocks line) to before in
+    let both = mark_at count (λ k. is_lacking blocks done k || (eqb line.from k && lacks_output blocks line))
+    (set table line.from (get_or table line.from false || lacks_output blocks line)) line.to
+    (lacks_input blocks line) to before in
     table_same count
     (λ k. (is_lacking blocks done k || (eqb line.from k && lacks_output blocks line)) || (eqb line.to k && lacks_input blocks line))
     (is_lacking blocks (done ++ line ∷ []))
-    (set (set table line.from (get_or table line.from false || lacks_output blocks line)) line.to (get_or (set table line.from (get_or table line.from false || lacks_output blocks line)) line.to false || lacks_input blocks line))
+    (set (set table line.from (get_or table line.from false || lacks_output blocks line)) line.to
+    (get_or (set table line.from (get_or table line.from false || lacks_output blocks line)) line.to false
+    || lacks_input blocks line))
     (λ k below. or_three (is_lacking blocks done k) (eqb line.from k && lacks_output blocks line) (eqb line.to k && lacks_input blocks line)
     ∙ sym (list_any-append (λ (l : NestedLine). (eqb l.from k && lacks_output blocks l) || (eqb l.to k && lacks_input blocks l)) done (line ∷ [])))
     both)

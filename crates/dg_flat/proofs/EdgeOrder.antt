@@ -42,7 +42,8 @@ in_order edges rise ties = λ i j d before inside. walk edges rise ties i j d be
 
 -- ---- edges of lines, one more
 
-pub gathered_some : {X : Type 0} (h : X → Option Edge) (xs : List X) (i : ℕ) (d : X) (edge : Edge) → i < length xs → h (get_or xs i d) ≡ Some edge → filter_map h (take (i + 1) xs) ≡ filter_map h (take i xs) ++ edge ∷ []
+pub gathered_some : {X : Type 0} (h : X → Option Edge) (xs : List X) (i : ℕ) (d : X) (edge : Edge) → i < length xs
+    → h (get_or xs i d) ≡ Some edge → filter_map h (take (i + 1) xs) ≡ filter_map h (take i xs) ++ edge ∷ []
 gathered_some h xs i d edge inside is =
     ap (filter_map h) (take_more xs i d inside) ∙ filter_map-append h (take i xs) (get_or xs i d ∷ [])
     ∙ ap (λ (o : Option Edge). filter_map h (take i xs) ++ cons_option o []) is

@@ -10,7 +10,8 @@ use Rattle.dg_model.specs.Faults.{fault_of}
 use Rattle.dg_flat.specs.Parts.{nested_path}
 use Rattle.dg_flat.specs.Rules.{AllNestedKeep, BreaksNested, KeepsWiring, KeepsEnable, BreaksWiringOrEnable}
 
-one_first : (nested : Nested) (rule : Rule) (Keeps : Nested → ℕ → NestedBlock → Type 0) (one other : RuleFault) → BreaksNested nested rule Keeps one → BreaksNested nested rule Keeps other → one ≡ other
+one_first : (nested : Nested) (rule : Rule) (Keeps : Nested → ℕ → NestedBlock → Type 0) (one other : RuleFault)
+    → BreaksNested nested rule Keeps one → BreaksNested nested rule Keeps other → one ≡ other
 one_first nested rule Keeps one other is too = elim (cases_order is.place too.place) [
   | inl same ↦ is.fault_is ∙ ap (λ (place : ℕ). fault_of rule (nested_path nested.blocks place) Nothing) same ∙ sym too.fault_is
   | inr differ ↦ elim differ [

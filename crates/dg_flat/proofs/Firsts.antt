@@ -1,5 +1,6 @@
 -- The first such block of a System, and how many there are, as one more block comes.
-use Rattle.std.proofs.Common.{◌≡◌, ℕ, zero, suc, ◌<◌, ◌≤◌, ◌+◌, Bool, true, false, cond, ◌&&◌, List, [], ◌∷◌, ◌++◌, length, take, set, get_or, Option, Some, None, add-zero, zero-add, refl, sym, ap, ◌∙◌, inl, inr, arith}
+use Rattle.std.proofs.Common.{◌≡◌, ℕ, zero, suc, ◌<◌, ◌≤◌, ◌+◌, Bool, true, false, cond, ◌&&◌, List, [], ◌∷◌, ◌++◌, length, take, set, get_or, Option, Some, None, add-zero, zero-add, refl, sym, ap}
+use Rattle.std.proofs.Common.{◌∙◌, inl, inr, arith}
 use Rattle.std.specs.Prelude.{count_by}
 use Rattle.std.specs.List.{position, position_from}
 use Rattle.std.proofs.lemmas.Bool.{cases_Bool, eq-eqb, eqb-true, false≢true}
@@ -80,7 +81,8 @@ first_none (Some n) = refl
 pub take_block : (blocks : List NestedBlock) (place : ℕ) (block : NestedBlock) → place < length blocks → get_or blocks place block ≡ block → take (place + 1) blocks ≡ take place blocks ++ block ∷ []
 take_block blocks place block inside at = take_more blocks place block inside ∙ ap (λ (b : NestedBlock). take place blocks ++ b ∷ []) at
 
-pub slot_inside : (blocks : List NestedBlock) (place : ℕ) (block : NestedBlock) → HaveParents blocks → place < length blocks → get_or blocks place block ≡ block → slot_of block.parent < suc (length blocks)
+pub slot_inside : (blocks : List NestedBlock) (place : ℕ) (block : NestedBlock) → HaveParents blocks
+    → place < length blocks → get_or blocks place block ≡ block → slot_of block.parent < suc (length blocks)
 slot_inside blocks place block have inside at = omega (arith, inside, have.before place block (slice_get-get_or blocks place block inside ∙ ap (λ (b : NestedBlock). Some b) at))
 
 pub length_done : (blocks : List NestedBlock) (place : ℕ) → place < length blocks → length (take place blocks) ≡ place
@@ -105,7 +107,8 @@ in_slot is_such slot block = same_system block.parent (system_of slot) && is_suc
 abbrev Skips : {X : Type 0} → ((NestedBlock → Bool) → List NestedBlock → X) → Type 0
 Skips gather = (test : NestedBlock → Bool) (done : List NestedBlock) (block : NestedBlock) → test block ≡ false → gather test done ≡ gather test (done ++ block ∷ [])
 
-gathered_same : {X : Type 0} (gather : (NestedBlock → Bool) → List NestedBlock → X) → Skips gather → (blocks : List NestedBlock) (i : ℕ) (block : NestedBlock) (is_such : Part → Bool) (table : List X) →
+gathered_same : {X : Type 0} (gather : (NestedBlock → Bool) → List NestedBlock → X) → Skips gather
+    → (blocks : List NestedBlock) (i : ℕ) (block : NestedBlock) (is_such : Part → Bool) (table : List X) →
     i < length blocks → block ≡ get_or blocks i block → is_such block.part ≡ false →
     IsTable (suc (length blocks)) (λ slot. gather (in_slot is_such slot) (take i blocks)) table → IsTable (suc (length blocks)) (λ slot. gather (in_slot is_such slot) (take (i + 1) blocks)) table
 gathered_same gather skips blocks i block is_such table inside at not_such is =
@@ -114,14 +117,19 @@ gathered_same gather skips blocks i block is_such table inside at not_such is =
     (λ k below. skips (in_slot is_such k) (take i blocks) block (ap (λ (such : Bool). same_system block.parent (system_of k) && such) not_such ∙ and_false (same_system block.parent (system_of k))))
     is)
 
-gathered_more : {X : Type 0} (gather : (NestedBlock → Bool) → List NestedBlock → X) → Skips gather → (blocks : List NestedBlock) (i : ℕ) (block : NestedBlock) (is_such : Part → Bool) (slot : ℕ) (table : List X) (new : X) →
+gathered_more : {X : Type 0} (gather : (NestedBlock → Bool) → List NestedBlock → X) → Skips gather
+    → (blocks : List NestedBlock) (i : ℕ) (block : NestedBlock) (is_such : Part → Bool) (slot : ℕ) (table : List X)
+    (new : X) →
     HaveParents blocks → i < length blocks → block ≡ get_or blocks i block → slot ≡ slot_of block.parent → is_such block.part ≡ true →
     ((test : NestedBlock → Bool) → test block ≡ true → ((d : X) → get_or table slot d ≡ gather test (take i blocks)) → new ≡ gather test (take i blocks ++ block ∷ [])) →
-    IsTable (suc (length blocks)) (λ slot. gather (in_slot is_such slot) (take i blocks)) table → IsTable (suc (length blocks)) (λ slot. gather (in_slot is_such slot) (take (i + 1) blocks)) (set table slot new)
+    IsTable (suc (length blocks)) (λ slot. gather (in_slot is_such slot) (take i blocks)) table
+    → IsTable (suc (length blocks)) (λ slot. gather (in_slot is_such slot) (take (i + 1) blocks))
+    (set table slot new)
 gathered_more gather skips blocks i block is_such slot table new have inside at slot_is such here is =
     let own : slot < suc (length blocks) = omega (arith, slot_inside blocks i block have inside (sym at), slot_is) in
     let test = in_slot is_such slot in
-    let known : test block ≡ true = ap (λ (k : ℕ). same_system block.parent (system_of k) && is_such block.part) slot_is ∙ ap (λ (same : Bool). same && is_such block.part) (same_at block.parent) ∙ such in
+    let known : test block ≡ true = ap (λ (k : ℕ). same_system block.parent (system_of k) && is_such block.part)
+    slot_is ∙ ap (λ (same : Bool). same && is_such block.part) (same_at block.parent) ∙ such in
     rw (take_block blocks i block inside (sym at))
     (table_set (suc (length blocks)) (λ slot. gather (in_slot is_such slot) (take i blocks)) (λ slot. gather (in_slot is_such slot) (take i blocks ++ block ∷ [])) table slot new own
     (here test known (λ d. is.at slot d own))
@@ -134,8 +142,10 @@ position_skips test done block fails = sym (position_push test done block ∙ ap
 count_skips : Skips count_by
 count_skips test done block fails = sym (count_push test done block ∙ ap (λ (b : Bool). count_by test done + cond b 1 0) fails ∙ add-zero (count_by test done))
 
-pub noted_same : (blocks : List NestedBlock) (i : ℕ) (block : NestedBlock) (is_such : Part → Bool) (table : List (Option ℕ)) → i < length blocks → block ≡ get_or blocks i block → is_such block.part ≡ false →
-    IsTable (suc (length blocks)) (λ slot. first_in (take i blocks) (system_of slot) is_such) table → IsTable (suc (length blocks)) (λ slot. first_in (take (i + 1) blocks) (system_of slot) is_such) table
+pub noted_same : (blocks : List NestedBlock) (i : ℕ) (block : NestedBlock) (is_such : Part → Bool)
+    (table : List (Option ℕ)) → i < length blocks → block ≡ get_or blocks i block → is_such block.part ≡ false →
+    IsTable (suc (length blocks)) (λ slot. first_in (take i blocks) (system_of slot) is_such) table
+    → IsTable (suc (length blocks)) (λ slot. first_in (take (i + 1) blocks) (system_of slot) is_such) table
 noted_same = gathered_same position position_skips
 
 pub noted_more : (blocks : List NestedBlock) (i : ℕ) (block : NestedBlock) (is_such : Part → Bool) (slot : ℕ) (table : List (Option ℕ)) →
@@ -147,16 +157,21 @@ noted_more blocks i block is_such slot table have inside at slot_is such is =
     (λ test passes known.
     let done = take i blocks in
     ap (λ (o : Option ℕ). first_of o (Some i)) (known None)
-    ∙ sym (position_push test done block ∙ ap (λ (b : Bool). first_of (position test done) (cond b (Some (length done)) None)) passes ∙ ap (λ (n : ℕ). first_of (position test done) (Some n)) (length_done blocks i inside)))
+    ∙ sym (position_push test done block ∙ ap
+    (λ (b : Bool). first_of (position test done) (cond b (Some (length done)) None)) passes
+    ∙ ap (λ (n : ℕ). first_of (position test done) (Some n)) (length_done blocks i inside)))
     is
 
 pub counted_same : (blocks : List NestedBlock) (i : ℕ) (block : NestedBlock) (is_such : Part → Bool) (table : List ℕ) → i < length blocks → block ≡ get_or blocks i block → is_such block.part ≡ false →
-    IsTable (suc (length blocks)) (λ slot. count_in (take i blocks) (system_of slot) is_such) table → IsTable (suc (length blocks)) (λ slot. count_in (take (i + 1) blocks) (system_of slot) is_such) table
+    IsTable (suc (length blocks)) (λ slot. count_in (take i blocks) (system_of slot) is_such) table
+    → IsTable (suc (length blocks)) (λ slot. count_in (take (i + 1) blocks) (system_of slot) is_such) table
 counted_same = gathered_same count_by count_skips
 
 pub counted_more : (blocks : List NestedBlock) (i : ℕ) (block : NestedBlock) (is_such : Part → Bool) (slot old : ℕ) (table : List ℕ) →
     HaveParents blocks → i < length blocks → block ≡ get_or blocks i block → slot ≡ slot_of block.parent → old ≡ get_or table slot old → is_such block.part ≡ true →
-    IsTable (suc (length blocks)) (λ slot. count_in (take i blocks) (system_of slot) is_such) table → IsTable (suc (length blocks)) (λ slot. count_in (take (i + 1) blocks) (system_of slot) is_such) (set table slot (old + 1))
+    IsTable (suc (length blocks)) (λ slot. count_in (take i blocks) (system_of slot) is_such) table
+    → IsTable (suc (length blocks)) (λ slot. count_in (take (i + 1) blocks) (system_of slot) is_such)
+    (set table slot (old + 1))
 counted_more blocks i block is_such slot old table have inside at slot_is old_is such is =
     gathered_more count_by count_skips blocks i block is_such slot table (old + 1) have inside at slot_is such
     (λ test passes known. ap (λ (n : ℕ). n + 1) (old_is ∙ known old) ∙ sym (count_push test (take i blocks) block ∙ ap (λ (b : Bool). count_by test (take i blocks) + cond b 1 0) passes))

@@ -17,7 +17,9 @@ placed_is blocks place control block path found flat is same held =
     is ∙ ap (λ (p : List ℕ). placed_as p (resets_under blocks found) (option_map (flat_place blocks) found) block) same ∙ ap (λ (o : Option ℕ). placed blocks place o block) held
 
 pub flat_is : (blocks : List NestedBlock) (place : ℕ) (control : Option ℕ) (part : Part) (block : Block) (path : List ℕ) (found : Option ℕ) (flat : Block) →
-    flat ≡ placed_as path (resets_under blocks found) (option_map (flat_place blocks) found) block → path ≡ nested_path blocks place → found ≡ control → flat_block blocks place control part ≡ Some (placed blocks place control block) →
+    flat ≡ placed_as path (resets_under blocks found) (option_map (flat_place blocks) found) block
+    → path ≡ nested_path blocks place → found ≡ control
+    → flat_block blocks place control part ≡ Some (placed blocks place control block) →
     Some flat ≡ flat_block blocks place control part
 flat_is blocks place control part block path found flat is same held e = ap (λ (b : Block). Some b) (placed_is blocks place control block path found flat is same held) ∙ sym e
 

@@ -42,9 +42,15 @@ pub no_block : (y : Block) → ◌≡◌ {A = Option Block} None (Some y) → �
 no_block y e = cc
 
 readable : (blocks : List NestedBlock) (place : ℕ) (control : Option ℕ) (part : Part) (y : Block) → HasReadable part → flat_block blocks place control part ≡ Some y → IsReadable y
-readable blocks place control (Plain block) y has is = subst IsReadable (same_Some _ y is) (placed_readable (nested_path blocks place) (resets_under blocks control) (option_map (flat_place blocks) control) block has)
-readable blocks place control (In block number) y has is = subst IsReadable (same_Some _ y is) (placed_readable (nested_path blocks place) (resets_under blocks control) (option_map (flat_place blocks) control) block has)
-readable blocks place control (Out block number) y has is = subst IsReadable (same_Some _ y is) (placed_readable (nested_path blocks place) (resets_under blocks control) (option_map (flat_place blocks) control) block has)
+readable blocks place control (Plain block) y has is =
+    subst IsReadable (same_Some _ y is) (placed_readable (nested_path blocks place) (resets_under blocks control)
+    (option_map (flat_place blocks) control) block has)
+readable blocks place control (In block number) y has is =
+    subst IsReadable (same_Some _ y is) (placed_readable (nested_path blocks place) (resets_under blocks control)
+    (option_map (flat_place blocks) control) block has)
+readable blocks place control (Out block number) y has is =
+    subst IsReadable (same_Some _ y is) (placed_readable (nested_path blocks place) (resets_under blocks control)
+    (option_map (flat_place blocks) control) block has)
 readable blocks place control SubSystem y has is = absurd (no_block y is)
 readable blocks place control (Enable reset) y has is = subst IsReadable (same_Some _ y is) (control_readable (nested_path blocks place))
 
@@ -97,10 +103,13 @@ agrees blocks place control (Enable reset) = refl
 pub stands_at : (blocks : List NestedBlock) (place : ℕ) (block : NestedBlock) → slice_get blocks place ≡ Some block → is_subsystem block.part ≡ false →
     slice_get (flat_blocks blocks) (flat_place blocks place) ≡ flat_block blocks place (control_of blocks block.parent) block.part
 stands_at blocks place block at not_one =
-    kept_at (λ (k, b). flat_block blocks k (control_of blocks b.parent) b.part) (λ b. not (is_subsystem b.part)) (λ n b. agrees blocks n (control_of blocks b.parent) b.part) 0 blocks place block at (ap not not_one)
+    kept_at (λ (k, b). flat_block blocks k (control_of blocks b.parent) b.part) (λ b. not (is_subsystem b.part))
+    (λ n b. agrees blocks n (control_of blocks b.parent) b.part) 0 blocks place block at (ap not not_one)
     ∙ ap (λ (n : ℕ). flat_block blocks n (control_of blocks block.parent) block.part) (zero-add place)
 
-named : (blocks : List NestedBlock) (place : ℕ) → IsEnablePort blocks place → MatchOption (slice_get (flat_blocks blocks) (flat_place blocks place)) ⊥ (λ block. (row_of block.kind).place.role ≡ Role.Control)
+named : (blocks : List NestedBlock) (place : ℕ) → IsEnablePort blocks place
+    → MatchOption (slice_get (flat_blocks blocks) (flat_place blocks place)) ⊥
+    (λ block. (row_of block.kind).place.role ≡ Role.Control)
 named blocks place (block, reset, at, is) =
     let there = stands_at blocks place block at (ap is_subsystem is) ∙ ap (flat_block blocks place (control_of blocks block.parent)) is in
     subst (λ (o : Option Block). MatchOption o ⊥ (λ b. (row_of b.kind).place.role ≡ Role.Control)) (sym there) refl
@@ -111,7 +120,8 @@ names blocks system = go (control_of blocks system) refl where
   go None e = tt
   go (Some place) e = named blocks place (control_within_enables blocks (suc (length blocks)) system place e)
 
-part_names : (blocks : List NestedBlock) (place : ℕ) (system : Option ℕ) (part : Part) (y : Block) → flat_block blocks place (control_of blocks system) part ≡ Some y → NamesControl (flat_blocks blocks) y.enable
+part_names : (blocks : List NestedBlock) (place : ℕ) (system : Option ℕ) (part : Part) (y : Block)
+    → flat_block blocks place (control_of blocks system) part ≡ Some y → NamesControl (flat_blocks blocks) y.enable
 part_names blocks place system (Plain block) y is = subst (λ (b : Block). NamesControl (flat_blocks blocks) b.enable) (same_Some _ y is) (names blocks system)
 part_names blocks place system (In block number) y is = subst (λ (b : Block). NamesControl (flat_blocks blocks) b.enable) (same_Some _ y is) (names blocks system)
 part_names blocks place system (Out block number) y is = subst (λ (b : Block). NamesControl (flat_blocks blocks) b.enable) (same_Some _ y is) (names blocks system)

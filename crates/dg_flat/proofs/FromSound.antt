@@ -49,6 +49,8 @@ have_ends nested sound = λ k d inside.
     let joins = (sound.lines k d inside).system in
     let from = matched nested.blocks line.from (λ source. MatchOption (slice_get nested.blocks line.to) ⊥ (λ target. source.parent ≡ target.parent)) joins in
     (from, second nested.blocks line.to (slice_get nested.blocks line.from) joins) where
-      second : (blocks : List NestedBlock) (to : ℕ) (o : Option NestedBlock) → MatchOption o ⊥ (λ source. MatchOption (slice_get blocks to) ⊥ (λ target. source.parent ≡ target.parent)) → to < length blocks
+      second : (blocks : List NestedBlock) (to : ℕ) (o : Option NestedBlock)
+          → MatchOption o ⊥ (λ source. MatchOption (slice_get blocks to) ⊥
+          (λ target. source.parent ≡ target.parent)) → to < length blocks
       second blocks to None joins = absurd joins
       second blocks to (Some source) joins = matched blocks to (λ target. source.parent ≡ target.parent) joins

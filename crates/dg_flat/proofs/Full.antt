@@ -96,13 +96,15 @@ abbrev is_port : Side → Option ℕ → NestedBlock → Bool
 is_port side system block = same_system block.parent system && is_some (number_on side block.part)
 
 abbrev InRange : List NestedBlock → Side → Option ℕ → ℕ → Type 0
-InRange blocks side system count = (place number : ℕ) (block : NestedBlock) → slice_get blocks place ≡ Some block → block.parent ≡ system → number_on side block.part ≡ Some number → (1 ≤ number) × (number ≤ count)
+InRange blocks side system count = (place number : ℕ) (block : NestedBlock) → slice_get blocks place ≡ Some block
+    → block.parent ≡ system → number_on side block.part ≡ Some number → (1 ≤ number) × (number ≤ count)
 
 -- one block is counted at its own number alone
 one_block : (side : Side) (system : Option ℕ) (count : ℕ) (block : NestedBlock) → ((number : ℕ) → block.parent ≡ system → number_on side block.part ≡ Some number → (1 ≤ number) × (number ≤ count)) →
     sum_below (λ m. cond (has_this side system (suc m) block) 1 0) count ≡ cond (is_port side system block) 1 0
 one_block side system count block ranged = go (same_system block.parent system) refl (number_on side block.part) refl where
-  go : (b : Bool) → same_system block.parent system ≡ b → (o : Option ℕ) → number_on side block.part ≡ o → sum_below (λ m. cond (has_this side system (suc m) block) 1 0) count ≡ cond (is_port side system block) 1 0
+  go : (b : Bool) → same_system block.parent system ≡ b → (o : Option ℕ) → number_on side block.part ≡ o
+      → sum_below (λ m. cond (has_this side system (suc m) block) 1 0) count ≡ cond (is_port side system block) 1 0
   go false e o is =
       sum_zero (λ m. cond (has_this side system (suc m) block) 1 0) count (λ m below. ap (λ (v : Bool). cond (v && is_number (suc m) (number_on side block.part)) 1 0) e)
       ∙ sym (ap (λ (v : Bool). cond (v && is_some (number_on side block.part)) 1 0) e)
@@ -131,7 +133,9 @@ total side system count (block ∷ blocks) ranged =
     ∙ ap (λ (n : ℕ). cond (is_port side system block) 1 0 + n) (total side system count blocks (λ place number b at. ranged (suc place) number b at))
     ∙ sym (count_cons (is_port side system) block blocks)
 
-pub each_number : (nested : Nested) → AllNestedKeep nested KeepsWiring → (side : Side) (system : Option ℕ) (number : ℕ) → 1 ≤ number → number ≤ count_in nested.blocks system (λ part. is_some (number_on side part)) →
+pub each_number : (nested : Nested) → AllNestedKeep nested KeepsWiring
+    → (side : Side) (system : Option ℕ) (number : ℕ) → 1 ≤ number
+    → number ≤ count_in nested.blocks system (λ part. is_some (number_on side part)) →
     (k : ℕ) × (first_in nested.blocks system (λ part. is_number number (number_on side part)) ≡ Some k)
 each_number nested keep side system zero above within = absurd (omega (arith, above))
 each_number nested keep side system (suc m) above within =
@@ -140,7 +144,9 @@ each_number nested keep side system (suc m) above within =
       in_range : InRange nested.blocks side system (count_by (is_port side system) nested.blocks)
       in_range place number block at same is =
           let its = ranged nested keep side place number block at is in
-          let counts : count_in nested.blocks block.parent (λ part. is_some (number_on side part)) ≡ count_by (is_port side system) nested.blocks = ap (λ (s : Option ℕ). count_in nested.blocks s (λ part. is_some (number_on side part))) same in
+          let counts : count_in nested.blocks block.parent (λ part. is_some (number_on side part))
+          ≡ count_by (is_port side system) nested.blocks =
+          ap (λ (s : Option ℕ). count_in nested.blocks s (λ part. is_some (number_on side part))) same in
           (its.above, omega (arith, its.within, counts))
 
       few : (n : ℕ) → count_by (has_this side system (suc n)) nested.blocks ≤ 1

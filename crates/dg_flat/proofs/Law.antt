@@ -20,15 +20,19 @@ use Rattle.dg_flat.proofs.RootPorts.{flat_inports, flat_outports}
 use Rattle.dg_flat.proofs.Standings.{flat_stands}
 use Rattle.dg_flat.proofs.FlatParts.{flat_few, flat_readable, flat_controls}
 
-pub flat_of : (nested : Nested) (blocks : List NestedBlock) (lines : List NestedLine) (flat : List Block) (edges : List Edge) → blocks ≡ nested.blocks → lines ≡ nested.lines → flat ≡ flat_blocks blocks →
+pub flat_of : (nested : Nested) (blocks : List NestedBlock) (lines : List NestedLine) (flat : List Block)
+    (edges : List Edge) → blocks ≡ nested.blocks → lines ≡ nested.lines → flat ≡ flat_blocks blocks →
     IsPermutation (filter_map (edge_of blocks) lines) edges → AllPairs StandsBefore edges → IsFlatOf nested (record { blocks = flat; edges = edges })
 flat_of nested blocks lines flat edges same_blocks same_lines is same ordered = record {
   blocks = is ∙ ap flat_blocks same_blocks;
-  edges = subst (λ (b : List NestedBlock). IsPermutation (filter_map (edge_of b) nested.lines) edges) same_blocks (subst (λ (l : List NestedLine). IsPermutation (filter_map (edge_of blocks) l) edges) same_lines same);
+  edges = subst (λ (b : List NestedBlock). IsPermutation (filter_map (edge_of b) nested.lines) edges) same_blocks
+      (subst (λ (l : List NestedLine). IsPermutation (filter_map (edge_of blocks) l) edges) same_lines same);
   ordered = ordered;
 }
 
-wired_as : (nested : Nested) (edges : List Edge) → IsSound nested → AllNestedKeep nested KeepsWiring → AllNestedKeep nested KeepsEnable → IsFlatOf nested (record { blocks = flat_blocks nested.blocks; edges = edges }) →
+wired_as : (nested : Nested) (edges : List Edge) → IsSound nested → AllNestedKeep nested KeepsWiring
+    → AllNestedKeep nested KeepsEnable
+    → IsFlatOf nested (record { blocks = flat_blocks nested.blocks; edges = edges }) →
     IsWired (record { blocks = flat_blocks nested.blocks; edges = edges })
 wired_as nested edges sound keep stand flat = record {
   size = omega (arith, flat_few nested.blocks, sound.size);

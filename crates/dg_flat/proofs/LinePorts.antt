@@ -85,7 +85,8 @@ out_part (Out block own) number is = (block, ap (λ (o : Option ℕ). Out block 
 out_part SubSystem number is = absurd (none-some number is)
 out_part (Enable reset) number is = absurd (none-some number is)
 
-pub in_block_kind : (nested : Nested) (place number : ℕ) (x : NestedBlock) (block : Block) → IsSound nested → slice_get nested.blocks place ≡ Some x → x.part ≡ In block number → IsInKind x.parent number block.kind
+pub in_block_kind : (nested : Nested) (place number : ℕ) (x : NestedBlock) (block : Block) → IsSound nested
+    → slice_get nested.blocks place ≡ Some x → x.part ≡ In block number → IsInKind x.parent number block.kind
 in_block_kind nested place number x block sound at e =
     in_kind x.parent number block.kind (subst (λ (part : Part). HasInRole x.parent part) e (all_get (λ b. HasInRole b.parent b.part) nested.blocks place x sound.ins at))
 
@@ -94,9 +95,13 @@ in_block nested place number x block sound at e =
     in_ports x.parent number block (in_block_kind nested place number x block sound at e)
     (subst (λ (part : Part). HasReadable part) e (all_get (λ b. HasReadable b.part) nested.blocks place x sound.blocks at))
 
-pub out_block_kind : (nested : Nested) (place number : ℕ) (x : NestedBlock) (block : Block) → IsSound nested → slice_get nested.blocks place ≡ Some x → x.part ≡ Out block number → IsOutKind nested.blocks x.parent number block.kind
+pub out_block_kind : (nested : Nested) (place number : ℕ) (x : NestedBlock) (block : Block) → IsSound nested
+    → slice_get nested.blocks place ≡ Some x → x.part ≡ Out block number
+    → IsOutKind nested.blocks x.parent number block.kind
 out_block_kind nested place number x block sound at e =
-    out_kind nested.blocks x.parent number block.kind (subst (λ (part : Part). HasOutRole nested.blocks x.parent part) e (all_get (λ b. HasOutRole nested.blocks b.parent b.part) nested.blocks place x sound.outs at))
+    out_kind nested.blocks x.parent number block.kind
+    (subst (λ (part : Part). HasOutRole nested.blocks x.parent part) e
+    (all_get (λ b. HasOutRole nested.blocks b.parent b.part) nested.blocks place x sound.outs at))
 
 pub out_block : (nested : Nested) (place number : ℕ) (x : NestedBlock) (block : Block) → IsSound nested → slice_get nested.blocks place ≡ Some x → x.part ≡ Out block number → OutPorts x.parent block
 out_block nested place number x block sound at e =
@@ -118,7 +123,9 @@ record InnerPort (blocks : List NestedBlock) (side : Side) (system number place 
   held : block.parent ≡ Some system
   its : number_on side block.part ≡ Some number
 
-inner_port : (blocks : List NestedBlock) (side : Side) (system number place : ℕ) → first_in blocks (Some system) (λ part. is_number number (number_on side part)) ≡ Some place → InnerPort blocks side system number place
+inner_port : (blocks : List NestedBlock) (side : Side) (system number place : ℕ)
+    → first_in blocks (Some system) (λ part. is_number number (number_on side part)) ≡ Some place
+    → InnerPort blocks side system number place
 inner_port blocks side system number place found =
     elim (slice_get_cases blocks place).1 [
       | inl has ↦
@@ -142,7 +149,9 @@ inner_control blocks system place found =
       | inl has ↦
           let block : NestedBlock = has.0 in
           let known = position-Some (λ b. same_system b.parent (Some system) && is_enable_port b.part) blocks place block found in
-          let both = and_parts (same_system block.parent (Some system)) (is_enable_port block.part) (sym (ap (λ (b : NestedBlock). same_system b.parent (Some system) && is_enable_port b.part) has.3) ∙ known.1) in
+          let both = and_parts (same_system block.parent (Some system)) (is_enable_port block.part)
+          (sym (ap (λ (b : NestedBlock). same_system b.parent (Some system) && is_enable_port b.part) has.3)
+          ∙ known.1) in
           let such = part_enable block.part both.1 in
           record { block = block; reset = such.0; there = has.2; held = same_system_eq block.parent (Some system) both.0; its = such.1 }
       | inr past ↦ absurd (omega (arith, past.0, position_within (λ b. same_system b.parent (Some system) && is_enable_port b.part) blocks place found))
@@ -238,7 +247,8 @@ end_port nested line sound keep good = go good.target.part refl line.target refl
   has part target e t = subst (λ (end : Target). HasEnd nested.blocks line.to part end) t (subst (λ (p : Part). HasEnd nested.blocks line.to p line.target) e good.ends)
 
   own : (part : Part) (port : ℕ) (block : Block) → good.target.part ≡ part → line.target ≡ Port port → is_subsystem part ≡ false →
-      flat_block nested.blocks line.to (control_of nested.blocks good.target.parent) part ≡ Some block → 1 ≤ port → port ≤ block.inputs → Enters line line.to good.target.parent part port → EndPort nested line
+      flat_block nested.blocks line.to (control_of nested.blocks good.target.parent) part ≡ Some block → 1 ≤ port
+      → port ≤ block.inputs → Enters line line.to good.target.parent part port → EndPort nested line
   own part port block e t kept gives above within enters = record {
     place = line.to;
     block = good.target;

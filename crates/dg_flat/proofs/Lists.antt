@@ -57,7 +57,8 @@ abbrev pub of_some : {Y Z : Type 0} → (Y → Option Z) → Option Y → Option
 of_some g None = None
 of_some g (Some y) = g y
 
-pub kept_kept : {X Y Z : Type 0} (h : ℕ × X → Option Y) (g : Y → Option Z) (r : X → Option Z) (from : ℕ) (xs : List X) → ((k : ℕ) (x : X) → slice_get xs k ≡ Some x → of_some g (h (from + k, x)) ≡ r x) →
+pub kept_kept : {X Y Z : Type 0} (h : ℕ × X → Option Y) (g : Y → Option Z) (r : X → Option Z) (from : ℕ)
+    (xs : List X) → ((k : ℕ) (x : X) → slice_get xs k ≡ Some x → of_some g (h (from + k, x)) ≡ r x) →
     filter_map g (filter_map h (enumerate_from from xs)) ≡ filter_map r xs
 kept_kept h g r from [] same = refl
 kept_kept {X} {Y} {Z} h g r from (x ∷ xs) same = go (h (from, x)) refl (kept_kept h g r (from + 1) xs later) where
@@ -67,7 +68,9 @@ kept_kept {X} {Y} {Z} h g r from (x ∷ xs) same = go (h (from, x)) refl (kept_k
   here : of_some g (h (from, x)) ≡ r x
   here = ap (λ (n : ℕ). of_some g (h (n, x))) (sym (add-zero from)) ∙ same 0 x refl
 
-  go : (o : Option Y) → h (from, x) ≡ o → filter_map g (filter_map h (enumerate_from (from + 1) xs)) ≡ filter_map r xs → filter_map g (cons_option o (filter_map h (enumerate_from (from + 1) xs))) ≡ filter_map r (x ∷ xs)
+  go : (o : Option Y) → h (from, x) ≡ o → filter_map g (filter_map h (enumerate_from (from + 1) xs))
+      ≡ filter_map r xs → filter_map g (cons_option o (filter_map h (enumerate_from (from + 1) xs)))
+      ≡ filter_map r (x ∷ xs)
   go None e rest =
       let none : r x ≡ None = sym here ∙ ap (of_some g) e in
       rest ∙ sym (ap (λ (o : Option Z). cons_option o (filter_map r xs)) none)

@@ -40,7 +40,8 @@ step done block side row n b e =
 kept : (done : List NestedBlock) (block : NestedBlock) (side : Side) (row n : ℕ) → is_port_at side row n block ≡ false → numbered_at done side row n ≡ numbered_at (done ++ block ∷ []) side row n
 kept done block side row n e = sym (step done block side row n false e ∙ first_none (numbered_at done side row n))
 
-pub numbered_more : (done : List NestedBlock) (block : NestedBlock) (side : Side) (lengths : List ℕ) (number place slot cell : ℕ) (ports : List (Option ℕ)) → length done ≡ place → slot ≡ slot_of block.parent →
+pub numbered_more : (done : List NestedBlock) (block : NestedBlock) (side : Side) (lengths : List ℕ)
+    (number place slot cell : ℕ) (ports : List (Option ℕ)) → length done ≡ place → slot ≡ slot_of block.parent →
     number_on side block.part ≡ Some number → HasCell lengths slot number → cell ≡ cell_at lengths slot number →
     IsRowTable lengths (numbered_at done side) ports → IsRowTable lengths (numbered_at (done ++ block ∷ []) side) (set ports cell (first_of (get_or ports cell None) (Some place)))
 numbered_more done block side lengths number place slot cell ports long slot_is number_is has cell_is is =
@@ -69,17 +70,22 @@ numbered_none done block side lengths ports none is =
 
 -- ---- what is found
 
-count_is : (blocks : List NestedBlock) (side : Side) (numbering : Numbering) (slot : ℕ) → IsNumbering blocks side numbering → slot < length numbering.rows.lengths.items → get_or numbering.rows.lengths.items slot 0 ≡ count_at blocks side slot
+count_is : (blocks : List NestedBlock) (side : Side) (numbering : Numbering) (slot : ℕ)
+    → IsNumbering blocks side numbering → slot < length numbering.rows.lengths.items
+    → get_or numbering.rows.lengths.items slot 0 ≡ count_at blocks side slot
 count_is blocks side numbering slot is there = is.counts.at slot 0 (omega (arith, is.counts.size, there))
 
-pub found_at : (blocks : List NestedBlock) (side : Side) (numbering : Numbering) (slot number : ℕ) (found : Option ℕ) → IsNumbering blocks side numbering → HasCell numbering.rows.lengths.items slot number →
+pub found_at : (blocks : List NestedBlock) (side : Side) (numbering : Numbering) (slot number : ℕ)
+    (found : Option ℕ) → IsNumbering blocks side numbering → HasCell numbering.rows.lengths.items slot number →
     found ≡ get_or numbering.ports.items (cell_at numbering.rows.lengths.items slot number) found → IsNumberedAt blocks side slot number found
 found_at blocks side numbering slot number found is has read = record {
   within = λ above within. read ∙ is.ports.at slot number found has;
   none = λ not. absurd (not (has.above, omega (arith, has.within, count_is blocks side numbering slot is has.there)));
 }
 
-pub not_found : (blocks : List NestedBlock) (side : Side) (numbering : Numbering) (slot number : ℕ) → IsNumbering blocks side numbering → slot < length numbering.rows.lengths.items → ¬ HasCell numbering.rows.lengths.items slot number →
+pub not_found : (blocks : List NestedBlock) (side : Side) (numbering : Numbering) (slot number : ℕ)
+    → IsNumbering blocks side numbering → slot < length numbering.rows.lengths.items
+    → ¬ HasCell numbering.rows.lengths.items slot number →
     IsNumberedAt blocks side slot number None
 not_found blocks side numbering slot number is there not = record {
   within = λ above within. absurd (not (record { there = there; above = above; within = omega (arith, within, count_is blocks side numbering slot is there) }));

@@ -1,5 +1,6 @@
 -- A wired flat diagram is one: its edges have different ends, so they stand in one order.
-use Rattle.std.proofs.Common.{◌≡◌, ℕ, zero, suc, ◌+◌, ◌<◌, ◌≤◌, inl, inr, Bool, true, false, cond, List, [], ◌∷◌, get_or, All, Option, Some, None, refl, sym, ◌∙◌, ap, arith, true≢false, eqb-true, eq-eqb}
+use Rattle.std.proofs.Common.{◌≡◌, ℕ, zero, suc, ◌+◌, ◌<◌, ◌≤◌, inl, inr, Bool, true, false, cond, List, [], ◌∷◌, get_or, All, Option, Some, None, refl, sym, ◌∙◌, ap, arith, true≢false, eqb-true}
+use Rattle.std.proofs.Common.{eq-eqb}
 use Rattle.std.specs.Prelude.{◌==◌, ◌&&◌, ◌⊎◌, count_by, slice_get, AllPairs, MatchOption}
 use Rattle.std.specs.List.{filter_map}
 use Rattle.std.proofs.lemmas.Bool.{cases_order, and_parts}
@@ -58,14 +59,39 @@ edge_with edge other same =
     let outer = and_parts ((other.from == edge.from) && (other.from_port == edge.from_port)) (enters edge.to edge.to_port other) same in
     let from = and_parts (other.from == edge.from) (other.from_port == edge.from_port) outer.0 in
     let to = and_parts (other.to == edge.to) (other.to_port == edge.to_port) outer.1 in
-    equal edge other (sym (eqb-true other.from edge.from from.0)) (sym (eqb-true other.from_port edge.from_port from.1)) (sym (eqb-true other.to edge.to to.0)) (sym (eqb-true other.to_port edge.to_port to.1))
+    equal edge other (sym (eqb-true other.from edge.from from.0))
+    (sym (eqb-true other.from_port edge.from_port from.1)) (sym (eqb-true other.to edge.to to.0))
+    (sym (eqb-true other.to_port edge.to_port to.1))
   where
     equal : (a b : Edge) → a.from ≡ b.from → a.from_port ≡ b.from_port → a.to ≡ b.to → a.to_port ≡ b.to_port → a ≡ b
     equal a b e f g h =
-        let one : ◌≡◌ {A = Edge} a (record { from = b.from; from_port = a.from_port; to = a.to; to_port = a.to_port }) = ap (λ (n : ℕ). record { from = n; from_port = a.from_port; to = a.to; to_port = a.to_port }) e in
-        let two : ◌≡◌ {A = Edge} (record { from = b.from; from_port = a.from_port; to = a.to; to_port = a.to_port }) (record { from = b.from; from_port = b.from_port; to = a.to; to_port = a.to_port }) = ap (λ (n : ℕ). record { from = b.from; from_port = n; to = a.to; to_port = a.to_port }) f in
-        let three : ◌≡◌ {A = Edge} (record { from = b.from; from_port = b.from_port; to = a.to; to_port = a.to_port }) (record { from = b.from; from_port = b.from_port; to = b.to; to_port = a.to_port }) = ap (λ (n : ℕ). record { from = b.from; from_port = b.from_port; to = n; to_port = a.to_port }) g in
-        let four : ◌≡◌ {A = Edge} (record { from = b.from; from_port = b.from_port; to = b.to; to_port = a.to_port }) b = ap (λ (n : ℕ). record { from = b.from; from_port = b.from_port; to = b.to; to_port = n }) h in
+        let one : ◌≡◌ {A = Edge} a (record {
+          from = b.from;
+          from_port = a.from_port;
+          to = a.to;
+          to_port =
+              a.to_port;
+        }) =
+        ap (λ (n : ℕ). record { from = n; from_port = a.from_port; to = a.to; to_port = a.to_port }) e in
+        let two : ◌≡◌ {A = Edge} (record { from = b.from; from_port = a.from_port; to = a.to; to_port = a.to_port })
+        (record { from = b.from; from_port = b.from_port; to = a.to; to_port = a.to_port }) =
+        ap (λ (n : ℕ). record { from = b.from; from_port = n; to = a.to; to_port = a.to_port }) f in
+        let three : ◌≡◌ {A = Edge} (record {
+          from = b.from;
+          from_port = b.from_port;
+          to = a.to;
+          to_port =
+              a.to_port;
+        }) (record { from = b.from; from_port = b.from_port; to = b.to; to_port = a.to_port }) =
+        ap (λ (n : ℕ). record { from = b.from; from_port = b.from_port; to = n; to_port = a.to_port }) g in
+        let four : ◌≡◌ {A = Edge} (record {
+          from = b.from;
+          from_port = b.from_port;
+          to = b.to;
+          to_port =
+              a.to_port;
+        }) b =
+        ap (λ (n : ℕ). record { from = b.from; from_port = b.from_port; to = b.to; to_port = n }) h in
         one ∙ two ∙ three ∙ four
 
 enters_of_same : (edge other : Edge) → same_edge edge other ≡ true → enters edge.to edge.to_port other ≡ true
@@ -91,7 +117,9 @@ passed_here : (edge other : Edge) → (edge.to < other.to) ⊎ ((edge.to ≡ oth
 passed_here edge other less = passed edge other other less (inr (refl, omega arith))
 
 -- so it isn't among them
-not_first : (edge other : Edge) (edges others : List Edge) → AreAlike (edge ∷ edges) (other ∷ others) → AllPairs StandsBefore (other ∷ others) → (edge.to < other.to) ⊎ ((edge.to ≡ other.to) × (edge.to_port < other.to_port)) → ⊥
+not_first : (edge other : Edge) (edges others : List Edge) → AreAlike (edge ∷ edges) (other ∷ others)
+    → AllPairs StandsBefore (other ∷ others)
+    → (edge.to < other.to) ⊎ ((edge.to ≡ other.to) × (edge.to_port < other.to_port)) → ⊥
 not_first edge other edges others alike ordered less =
     let test = enters edge.to edge.to_port in
     none_counted test others (λ k d inside. passed edge other (get_or others k d) less (ordered 0 (suc k) d (omega arith) (omega (arith, inside))))
@@ -117,7 +145,13 @@ first_is edge other edges others alike apart to port = by (same_edge edge other)
     by : (b : Bool) → same_edge edge other ≡ b → edge ≡ other
     by true same = edge_with edge other same
     by false differs =
-        let some : 1 ≤ count_by (same_edge edge) others = omega (arith, count_yes (same_edge edge) edge edges (edge_self edge), alike (same_edge edge), count_no (same_edge edge) other others differs) in
+        let some : 1 ≤ count_by (same_edge edge) others =
+        omega (
+          arith,
+          count_yes (same_edge edge) edge edges (edge_self edge),
+          alike (same_edge edge),
+          count_no (same_edge edge) other others differs,
+        ) in
         let none : count_by (enters edge.to edge.to_port) others ≡ 0 = omega (arith, apart edge.to edge.to_port, count_yes (enters edge.to edge.to_port) other others here) in
         absurd (none_same edge others some none)
 
@@ -158,7 +192,9 @@ apart diagram wired block port = by (count_by (enters block port) diagram.edges)
         let at = eqb-true edge.to_port port both.1 in
         of_block (slice_get diagram.blocks edge.to) refl joins.target
       where
-        of_block : (found : Option Block) → slice_get diagram.blocks edge.to ≡ found → MatchOption found ⊥ (λ b. (1 ≤ edge.to_port) × (edge.to_port ≤ b.inputs)) → count_by (enters block port) diagram.edges ≡ 1
+        of_block : (found : Option Block) → slice_get diagram.blocks edge.to ≡ found
+            → MatchOption found ⊥ (λ b. (1 ≤ edge.to_port) × (edge.to_port ≤ b.inputs))
+            → count_by (enters block port) diagram.edges ≡ 1
         of_block None is none = absurd none
         of_block (Some b) is has =
             let both = and_parts (edge.to == block) (edge.to_port == port) enter in
@@ -175,7 +211,9 @@ apart diagram wired block port = by (count_by (enters block port) diagram.edges)
 pub one_flat : (nested : Nested) (one other : Diagram) → IsFlatOf nested one → IsWired one → IsFlatOf nested other → one ≡ other
 one_flat nested one other is wired too =
     let base : List Edge = filter_map (edge_of nested.blocks) nested.lines in
-    let alike : AreAlike other.edges one.edges = λ p. sum_by-IsPermutation (λ x. cond (p x) 1 0) base other.edges too.edges ∙ sym (sum_by-IsPermutation (λ x. cond (p x) 1 0) base one.edges is.edges) in
+    let alike : AreAlike other.edges one.edges =
+    λ p. sum_by-IsPermutation (λ x. cond (p x) 1 0) base other.edges too.edges
+    ∙ sym (sum_by-IsPermutation (λ x. cond (p x) 1 0) base one.edges is.edges) in
     let edges : other.edges ≡ one.edges = one_order other.edges one.edges alike (apart one wired) too.ordered is.ordered in
     equal one other (is.blocks ∙ sym too.blocks) (sym edges)
   where

@@ -87,7 +87,9 @@ pub record ComesFrom (blocks : List NestedBlock) (j : ℕ) (flat : Block) : Type
 
 pub comes_from : (blocks : List NestedBlock) (j : ℕ) (flat : Block) → slice_get (flat_blocks blocks) j ≡ Some flat → ComesFrom blocks j flat
 comes_from blocks j flat at =
-    let o = origin_from (λ (place, block). flat_block blocks place (control_of blocks block.parent) block.part) (λ b. not (is_subsystem b.part)) (λ n b. agrees blocks n (control_of blocks b.parent) b.part) 0 blocks j flat at in
+    let o = origin_from (λ (place, block). flat_block blocks place (control_of blocks block.parent) block.part)
+    (λ b. not (is_subsystem b.part))
+    (λ n b. agrees blocks n (control_of blocks b.parent) b.part) 0 blocks j flat at in
     record {
       place = o.place;
       block = o.item;

@@ -57,7 +57,9 @@ paths_more blocks place block paths path inside at is are = record {
         | inl e ↦
             let here : slice_get blocks place ≡ Some block = slice_get-get_or blocks place block inside ∙ ap (λ (o : NestedBlock). Some o) at in
             let same : b ≡ block = same_Some b block (sym there ∙ ap (slice_get blocks) e ∙ here) in
-            let last : get_or (paths ++ path ∷ []) place [] ≡ nested_path blocks place = get_or_push paths path [] place are.size ∙ is (ap (λ (o : NestedBlock). is_subsystem o.part) (sym same) ∙ such) in
+            let last : get_or (paths ++ path ∷ []) place [] ≡ nested_path blocks place =
+            get_or_push paths path [] place are.size
+            ∙ is (ap (λ (o : NestedBlock). is_subsystem o.part) (sym same) ∙ such) in
             subst (λ (j : ℕ). get_or (paths ++ path ∷ []) j [] ≡ nested_path blocks j) (sym e) last
         | inr n ↦ get_or_append_left paths (path ∷ []) [] k (omega (arith, are.size, below, n)) ∙ are.at k b (omega (arith, below, n)) there such
       ];

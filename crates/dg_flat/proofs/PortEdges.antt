@@ -39,7 +39,9 @@ use Rattle.math_list.proofs.Tests.{same_test}
 abbrev edge_between : FlatPort → FlatPort → Edge
 edge_between source end = record { from = source.block; from_port = source.port; to = end.block; to_port = end.port }
 
-edge_is : (blocks : List NestedBlock) (line : NestedLine) (source end : FlatPort) → source_of blocks line ≡ Some source → end_at blocks line.to line.target ≡ Some end → edge_of blocks line ≡ Some (edge_between source end)
+edge_is : (blocks : List NestedBlock) (line : NestedLine) (source end : FlatPort)
+    → source_of blocks line ≡ Some source → end_at blocks line.to line.target ≡ Some end
+    → edge_of blocks line ≡ Some (edge_between source end)
 edge_is blocks line source end from to = ap (λ (o : Option FlatPort). joined o (end_at blocks line.to line.target)) from ∙ ap (joined (Some source)) to
 
 pub flat_joins : (nested : Nested) → IsSound nested → AllNestedKeep nested KeepsWiring → All (Joins (flat_blocks nested.blocks)) (filter_map (edge_of nested.blocks) nested.lines)
@@ -47,7 +49,9 @@ flat_joins nested sound keep = each_given (edge_of nested.blocks) (Joins (flat_b
     let good = all_get (GoodLine nested) nested.lines k line (good_lines nested sound keep) at in
     let source = source_port nested line sound keep good in
     let end = end_port nested line sound keep good in
-    let same = same_Some (edge_between source.port (port_of nested.blocks end.place end.port)) edge (sym (edge_is nested.blocks line source.port (port_of nested.blocks end.place end.port) source.is end.is) ∙ is) in
+    let same = same_Some (edge_between source.port (port_of nested.blocks end.place end.port)) edge
+    (sym (edge_is nested.blocks line source.port (port_of nested.blocks end.place end.port) source.is end.is)
+    ∙ is) in
     subst (Joins (flat_blocks nested.blocks)) same (record { source = source.there; target = end.input }))
 
 -- ---- the nested end of a flat input port
@@ -97,7 +101,9 @@ first_is nested place system number x at held its is =
     ap (λ (s : Option ℕ). first_in nested.blocks s (λ part. is_number number (in_number part))) (sym held ∙ sym (slot_back x.parent))
     ∙ sym (found.within is.above (omega (arith, is.within, counts)))
 
-module _ (nested : Nested) (sound : IsSound nested) (keep : AllNestedKeep nested KeepsWiring) (stand : AllNestedKeep nested KeepsEnable) (place port : ℕ) (x : NestedBlock) (at : slice_get nested.blocks place ≡ Some x) (above : 1 ≤ port) where
+module _ (nested : Nested) (sound : IsSound nested) (keep : AllNestedKeep nested KeepsWiring)
+    (stand : AllNestedKeep nested KeepsEnable) (place port : ℕ) (x : NestedBlock)
+    (at : slice_get nested.blocks place ≡ Some x) (above : 1 ≤ port) where
   own_entry : (part : Part) → x.part ≡ part → is_subsystem part ≡ false → port ≤ inputs_of nested.blocks place part →
       ((line : NestedLine) → Enters line place x.parent part port → (line.to ≡ place) × (line.target ≡ Port port)) → Entry nested place x port
   own_entry part e kept within leads = record {
@@ -197,7 +203,9 @@ line_enters nested j port place x line at kept flat_at entry end =
           (eq-eqb (flat_place nested.blocks end.place) j (ap (λ (p : FlatPort). p.block) same ∙ flat_at))
           (eq-eqb end.port port (ap (λ (p : FlatPort). p.port) same))
 
-pub flat_driven : (nested : Nested) → IsSound nested → AllNestedKeep nested KeepsWiring → AllNestedKeep nested KeepsEnable → (j port : ℕ) (flat : Block) → slice_get (flat_blocks nested.blocks) j ≡ Some flat → 1 ≤ port → port ≤ flat.inputs →
+pub flat_driven : (nested : Nested) → IsSound nested → AllNestedKeep nested KeepsWiring
+    → AllNestedKeep nested KeepsEnable → (j port : ℕ) (flat : Block)
+    → slice_get (flat_blocks nested.blocks) j ≡ Some flat → 1 ≤ port → port ≤ flat.inputs →
     count_by (enters j port) (filter_map (edge_of nested.blocks) nested.lines) ≡ 1
 flat_driven nested sound keep stand j port flat at above within =
     let from = comes_from nested.blocks j flat at in

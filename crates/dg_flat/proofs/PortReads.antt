@@ -21,7 +21,8 @@ inputs_is blocks place block at = rw at refl
 pub outputs_is : (blocks : List NestedBlock) (place : ℕ) (block : NestedBlock) → slice_get blocks place ≡ Some block → outputs_at blocks place ≡ outputs_of blocks place block.part
 outputs_is blocks place block at = rw at refl
 
-pub ports_read : (blocks : List NestedBlock) (side : Side) (place : ℕ) (block : NestedBlock) → place < length blocks → block ≡ get_or blocks place block → ports_of blocks side place block.part ≡ ports_at blocks side place
+pub ports_read : (blocks : List NestedBlock) (side : Side) (place : ℕ) (block : NestedBlock) → place < length blocks
+    → block ≡ get_or blocks place block → ports_of blocks side place block.part ≡ ports_at blocks side place
 ports_read blocks side place block inside at = let there : slice_get blocks place ≡ Some block = read_at blocks place block inside at in rw there refl
 
 -- a subsystem has the ports that stand in it

@@ -31,7 +31,9 @@ position_inside p blocks = go (position p blocks) refl where
 
 -- ---- numbers
 
-pub found_is : (blocks : List NestedBlock) (side : Side) (slot number : ℕ) (found : Option ℕ) → AreNumbersWithin blocks → IsNumberedAt blocks side slot number found → found ≡ numbered_at blocks side slot number
+pub found_is : (blocks : List NestedBlock) (side : Side) (slot number : ℕ) (found : Option ℕ)
+    → AreNumbersWithin blocks → IsNumberedAt blocks side slot number found
+    → found ≡ numbered_at blocks side slot number
 found_is blocks side slot number found are is =
     elim (cases_lt number 1) [
       | inl below ↦ is.none (λ has. absurd (omega (arith, has.0, below))) ∙ sym (are.past side slot number (λ has. absurd (omega (arith, has.0, below))))
@@ -54,7 +56,9 @@ port_inside blocks system = position_inside (λ block. same_system block.parent 
 control_within_inside : (blocks : List NestedBlock) (levels : ℕ) (system : Option ℕ) → IsInside blocks (control_within blocks levels system)
 control_within_inside blocks zero system = tt
 control_within_inside blocks (suc levels) system = go (enable_port blocks system) system (port_inside blocks system) (control_within_inside blocks levels) where
-  go : (port system : Option ℕ) → IsInside blocks port → ((around : Option ℕ) → IsInside blocks (control_within blocks levels around)) → IsInside blocks (control_else port system (control_within blocks levels) blocks)
+  go : (port system : Option ℕ) → IsInside blocks port
+      → ((around : Option ℕ) → IsInside blocks (control_within blocks levels around))
+      → IsInside blocks (control_else port system (control_within blocks levels) blocks)
   go (Some port) system inside rest = inside
   go None None inside rest = tt
   go None (Some system) inside rest = rest (system_around blocks (Some system))
@@ -64,13 +68,17 @@ control_inside blocks system = control_within_inside blocks (suc (length blocks)
 
 -- ---- kept rules
 
-pub ranged : (nested : Nested) → AllNestedKeep nested KeepsWiring → (side : Side) (place number : ℕ) (block : NestedBlock) → slice_get nested.blocks place ≡ Some block → number_on side block.part ≡ Some number →
+pub ranged : (nested : Nested) → AllNestedKeep nested KeepsWiring
+    → (side : Side) (place number : ℕ) (block : NestedBlock) → slice_get nested.blocks place ≡ Some block
+    → number_on side block.part ≡ Some number →
     IsNumbered nested.blocks place block.parent (number_on side) number
 ranged nested keep In place number block at is = (keep place block at).in_number number is
 ranged nested keep Out place number block at is = (keep place block at).out_number number is
 
 -- a port that is found has one of the numbers
-in_range : (nested : Nested) → AllNestedKeep nested KeepsWiring → (side : Side) (slot number place : ℕ) → numbered_at nested.blocks side slot number ≡ Some place → (1 ≤ number) × (number ≤ count_at nested.blocks side slot)
+in_range : (nested : Nested) → AllNestedKeep nested KeepsWiring → (side : Side) (slot number place : ℕ)
+    → numbered_at nested.blocks side slot number ≡ Some place
+    → (1 ≤ number) × (number ≤ count_at nested.blocks side slot)
 in_range nested keep side slot number place found =
     elim (slice_get_cases nested.blocks place).1 [
       | inl has ↦
@@ -79,13 +87,17 @@ in_range nested keep side slot number place found =
           let known = position-Some test nested.blocks place block found in
           let own = passed side (system_of slot) number block (sym (ap test has.3) ∙ known.1) in
           let is = ranged nested keep side place number block has.2 own.1 in
-          let counts : count_in nested.blocks block.parent (λ part. is_some (number_on side part)) ≡ count_at nested.blocks side slot = ap (λ (s : Option ℕ). count_in nested.blocks s (λ part. is_some (number_on side part))) own.0 in
+          let counts : count_in nested.blocks block.parent (λ part. is_some (number_on side part))
+          ≡ count_at nested.blocks side slot =
+          ap (λ (s : Option ℕ). count_in nested.blocks s (λ part. is_some (number_on side part))) own.0 in
           (is.above, omega (arith, is.within, counts))
       | inr past ↦ absurd (omega (arith, past.0, position_within (has_this side (system_of slot) number) nested.blocks place found))
     ]
 
 pub numbers_within : (nested : Nested) → AllNestedKeep nested KeepsWiring → AreNumbersWithin nested.blocks
 numbers_within nested keep = record { past = λ side slot number past. go side slot number past (numbered_at nested.blocks side slot number) refl } where
-  go : (side : Side) (slot number : ℕ) → ¬ ((1 ≤ number) × (number ≤ count_at nested.blocks side slot)) → (o : Option ℕ) → numbered_at nested.blocks side slot number ≡ o → numbered_at nested.blocks side slot number ≡ None
+  go : (side : Side) (slot number : ℕ) → ¬ ((1 ≤ number) × (number ≤ count_at nested.blocks side slot))
+      → (o : Option ℕ) → numbered_at nested.blocks side slot number ≡ o
+      → numbered_at nested.blocks side slot number ≡ None
   go side slot number past None e = e
   go side slot number past (Some place) e = absurd (past (in_range nested keep side slot number place e))

@@ -54,7 +54,9 @@ two_of P a b first second (suc (suc k)) d inside = absurd (omega (arith, inside)
 
 subsystem_kept : KeepsWiring (with_lines (line 0 1 1 (Port 1) ∷ line 0 1 1 ToEnable ∷ [])) 1 (within None SubSystem)
 subsystem_kept = record {
-  leaving = two_of (λ l. l.from ≡ 1 → (1 ≤ l.from_port) × (l.from_port ≤ outputs_of blocks 1 SubSystem)) (line 0 1 1 (Port 1)) (line 0 1 1 ToEnable) (λ from. absurd (omega (arith, from))) (λ from. absurd (omega (arith, from)));
+  leaving = two_of (λ l. l.from ≡ 1 → (1 ≤ l.from_port) × (l.from_port ≤ outputs_of blocks 1 SubSystem))
+      (line 0 1 1 (Port 1)) (line 0 1 1 ToEnable) (λ from. absurd (omega (arith, from)))
+      (λ from. absurd (omega (arith, from)));
   ending = two_of (λ l. l.to ≡ 1 → HasEnd blocks 1 SubSystem l.target) (line 0 1 1 (Port 1)) (line 0 1 1 ToEnable) (λ to. (lit≤ tt, lit≤ tt)) (λ to. refl);
   driven = one_port;
   enabled = tt;
@@ -117,7 +119,12 @@ second_control : ¬ KeepsEnable (record { blocks = within None SubSystem ∷ wit
 second_control keeps = absurd (omega (arith, same_Some 1 2 keeps.0))
 
 -- an EnablePort two levels inside an enabled subsystem, whose own stands behind it in the file
-inner_control : ¬ KeepsEnable (record { blocks = within None SubSystem ∷ within (Some 0) SubSystem ∷ within (Some 1) SubSystem ∷ within (Some 2) (Enable false) ∷ within (Some 0) (Enable false) ∷ []; lines = [] }) 3 (within (Some 2) (Enable false))
+inner_control : ¬ KeepsEnable (record {
+  blocks =
+      within None SubSystem ∷ within (Some 0) SubSystem ∷ within (Some 1) SubSystem ∷ within (Some 2) (Enable false)
+      ∷ within (Some 0) (Enable false) ∷ [];
+  lines = [];
+}) 3 (within (Some 2) (Enable false))
 inner_control keeps = absurd (none-some 4 (sym keeps.1))
 
 abbrev slower : Option ℕ → Decimal → NestedBlock
@@ -126,5 +133,10 @@ slower system period = within system (Plain (block (RateTransition period []) 1 
 rate_outside : (period : Decimal) → KeepsEnable (record { blocks = within None SubSystem ∷ slower (Some 0) period ∷ []; lines = [] }) 1 (slower (Some 0) period)
 rate_outside period = refl
 
-rate_inside : (period : Decimal) → ¬ KeepsEnable (record { blocks = within None SubSystem ∷ within (Some 0) SubSystem ∷ slower (Some 1) period ∷ within (Some 0) (Enable false) ∷ []; lines = [] }) 2 (slower (Some 1) period)
+rate_inside : (period : Decimal) → ¬ KeepsEnable
+    (record {
+      blocks = within None SubSystem ∷ within (Some 0) SubSystem ∷ slower (Some 1) period
+          ∷ within (Some 0) (Enable false) ∷ [];
+      lines = [];
+    }) 2 (slower (Some 1) period)
 rate_inside period keeps = absurd (none-some 3 (sym keeps))

@@ -76,7 +76,9 @@ in_number_is Ins (Some system) number block has = ap (λ (kind : Kind). root_inp
 in_number_is Outs None number block has = ap (λ (kind : Kind). root_output (row_of kind).place.role) has.1
 in_number_is Outs (Some system) number block has = ap (λ (kind : Kind). root_output (row_of kind).place.role) has.1
 
-out_number_is : (side : Side) (blocks : List NestedBlock) (system : Option ℕ) (number : ℕ) (block : Block) → IsOutKind blocks system number block.kind → of_block side block ≡ at_root system (number_on side (Out block number))
+out_number_is : (side : Side) (blocks : List NestedBlock) (system : Option ℕ) (number : ℕ) (block : Block)
+    → IsOutKind blocks system number block.kind
+    → of_block side block ≡ at_root system (number_on side (Out block number))
 out_number_is Ins blocks None number block has = ap (λ (kind : Kind). root_input (row_of kind).place.role) has
 out_number_is Ins blocks (Some system) number block (inl has) = ap (λ (kind : Kind). root_input (row_of kind).place.role) has.1
 out_number_is Ins blocks (Some system) number block (inr has) = ap (λ (kind : Kind). root_input (row_of kind).place.role) has.1.2
@@ -101,7 +103,9 @@ number_is nested sound side place x at =
       go (In block number) e = by_part (In block number) e
           (role_kept side (resets_under nested.blocks (control_of nested.blocks x.parent)) block.kind ∙ in_number_is side x.parent number block (in_block_kind nested place number x block sound at e))
       go (Out block number) e = by_part (Out block number) e
-          (role_kept side (resets_under nested.blocks (control_of nested.blocks x.parent)) block.kind ∙ out_number_is side nested.blocks x.parent number block (out_block_kind nested place number x block sound at e))
+          (role_kept side (resets_under nested.blocks (control_of nested.blocks x.parent)) block.kind
+          ∙ out_number_is side nested.blocks x.parent number block
+          (out_block_kind nested place number x block sound at e))
       go SubSystem e = by_part SubSystem e (sym (ap (at_root x.parent) (holder_number side) ∙ no_number x.parent))
       go (Enable reset) e = by_part (Enable reset) e (control_none side ∙ sym (ap (at_root x.parent) (control_number side reset) ∙ no_number x.parent))
 

@@ -64,7 +64,9 @@ put edge (x ∷ xs) ordered = by (stands_either edge x) (put edge xs (λ i j d l
       list = x ∷ rest.list;
       same = IsPermutation-trans (edge ∷ x ∷ xs) (x ∷ edge ∷ xs) (x ∷ rest.list) (IsPermutation-middle (edge ∷ []) x xs) (IsPermutation-cons x (edge ∷ xs) rest.list rest.same);
       ordered = AllPairs-cons StandsBefore x rest.list
-          (All-permutation (StandsBefore x) (edge ∷ xs) rest.list rest.same (All-cons (StandsBefore x) edge xs after (λ k d inside. ordered 0 (suc k) d (omega arith) (omega (arith, inside))))) rest.ordered;
+          (All-permutation (StandsBefore x) (edge ∷ xs) rest.list rest.same
+          (All-cons (StandsBefore x) edge xs after
+          (λ k d inside. ordered 0 (suc k) d (omega arith) (omega (arith, inside))))) rest.ordered;
     }
 
 in_order : (edges : List Edge) → Ordered edges
@@ -80,7 +82,9 @@ in_order (x ∷ xs) = on (in_order xs) where
 abbrev KeepTo : Nested → (Nested → ℕ → NestedBlock → Type 0) → ℕ → Type 0
 KeepTo nested Keeps count = (place : ℕ) (block : NestedBlock) → place < count → slice_get nested.blocks place ≡ Some block → Keeps nested place block
 
-one_more : (nested : Nested) (Keeps : Nested → ℕ → NestedBlock → Type 0) (count : ℕ) → KeepTo nested Keeps count → ((block : NestedBlock) → slice_get nested.blocks count ≡ Some block → Keeps nested count block) → KeepTo nested Keeps (suc count)
+one_more : (nested : Nested) (Keeps : Nested → ℕ → NestedBlock → Type 0) (count : ℕ) → KeepTo nested Keeps count
+    → ((block : NestedBlock) → slice_get nested.blocks count ≡ Some block → Keeps nested count block)
+    → KeepTo nested Keeps (suc count)
 one_more nested Keeps count kept here place block less there = elim (cases_lt place count) [
   | inl before ↦ kept place block before there
   | inr at ↦
@@ -88,7 +92,9 @@ one_more nested Keeps count kept here place block less there = elim (cases_lt pl
       subst (λ (p : ℕ). Keeps nested p block) same (here block (ap (slice_get nested.blocks) same ∙ there))
 ]
 
-kept_below : (nested : Nested) (rule : Rule) (Keeps : Nested → ℕ → NestedBlock → Type 0) → ((fault : RuleFault) → BreaksNested nested rule Keeps fault → ⊥) → (count : ℕ) → (KeepTo nested Keeps count → ⊥) → ⊥
+kept_below : (nested : Nested) (rule : Rule) (Keeps : Nested → ℕ → NestedBlock → Type 0)
+    → ((fault : RuleFault) → BreaksNested nested rule Keeps fault → ⊥) → (count : ℕ)
+    → (KeepTo nested Keeps count → ⊥) → ⊥
 kept_below nested rule Keeps none zero never = never (λ place block less there. absurd (omega (arith, less)))
 kept_below nested rule Keeps none (suc count) never = kept_below nested rule Keeps none count (λ kept. by (slice_get nested.blocks count) refl kept)
   where

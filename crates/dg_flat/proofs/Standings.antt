@@ -76,7 +76,9 @@ inside_some blocks system has = go (enable_port blocks (Some system)) (port_some
   go None some = absurd (true≢false (sym some))
   go (Some port) some = refl
 
-out_stands : (blocks : List NestedBlock) (system : Option ℕ) (number : ℕ) (kind : Kind) → IsOutKind blocks system number kind → StandsAs kind (option_map (flat_place blocks) (control_of blocks system))
+out_stands : (blocks : List NestedBlock) (system : Option ℕ) (number : ℕ) (kind : Kind)
+    → IsOutKind blocks system number kind
+    → StandsAs kind (option_map (flat_place blocks) (control_of blocks system))
 out_stands blocks None number kind has = subst (λ (k : Kind). StandsAs k (option_map (flat_place blocks) (control_of blocks None))) (sym has) tt
 out_stands blocks (Some system) number kind (inl has) = subst (λ (k : Kind). StandsAs k (option_map (flat_place blocks) (control_of blocks (Some system)))) (sym has.1) tt
 out_stands blocks (Some system) number kind (inr has) =
@@ -91,7 +93,9 @@ stands_by nested sound stand place x flat at gives = go x.part refl where
   enable : Option ℕ
   enable = option_map (flat_place nested.blocks) (control_of nested.blocks x.parent)
 
-  by : (part : Part) → x.part ≡ part → (block : Block) → flat_block nested.blocks place (control_of nested.blocks x.parent) part ≡ Some block → StandsAs block.kind block.enable → StandsAs flat.kind flat.enable
+  by : (part : Part) → x.part ≡ part → (block : Block)
+      → flat_block nested.blocks place (control_of nested.blocks x.parent) part ≡ Some block
+      → StandsAs block.kind block.enable → StandsAs flat.kind flat.enable
   by part e block is stands =
       subst (λ (b : Block). StandsAs b.kind b.enable) (same_Some block flat (sym is ∙ sym (ap (flat_block nested.blocks place (control_of nested.blocks x.parent)) e) ∙ gives)) stands
 
@@ -111,5 +115,6 @@ stands_by nested sound stand place x flat at gives = go x.part refl where
 
 pub flat_stands : (nested : Nested) → IsSound nested → AllNestedKeep nested KeepsEnable → All (λ block. MayStandFlat (row_of block.kind).place.stands block.enable) (flat_blocks nested.blocks)
 flat_stands nested sound stand =
-    each_kept (λ (place, block). flat_block nested.blocks place (control_of nested.blocks block.parent) block.part) (λ block. MayStandFlat (row_of block.kind).place.stands block.enable) 0 nested.blocks
+    each_kept (λ (place, block). flat_block nested.blocks place (control_of nested.blocks block.parent) block.part)
+    (λ block. MayStandFlat (row_of block.kind).place.stands block.enable) 0 nested.blocks
     (λ k x y at is. stands_by nested sound stand k x y at (ap (λ (n : ℕ). flat_block nested.blocks n (control_of nested.blocks x.parent) x.part) (sym (zero-add k)) ∙ is))

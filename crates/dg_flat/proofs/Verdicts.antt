@@ -42,14 +42,18 @@ past_yes number count is has = grind (arith, nat_tests)
 
 -- ---- ports
 
-end_no : (blocks : List NestedBlock) (place : ℕ) (block : NestedBlock) (target : Target) → slice_get blocks place ≡ Some block → lacks_end blocks place target ≡ false → HasEnd blocks place block.part target
+end_no : (blocks : List NestedBlock) (place : ℕ) (block : NestedBlock) (target : Target)
+    → slice_get blocks place ≡ Some block → lacks_end blocks place target ≡ false
+    → HasEnd blocks place block.part target
 end_no blocks place block (Port port) at is = rw (inputs_is blocks place block at) at (past_no port (inputs_at blocks place) is)
 end_no blocks place block ToEnable at is = go (enable_port blocks (Some place)) is where
   go : (o : Option ℕ) → not (is_some o) ≡ false → IsSome o
   go None none = absurd (true≢false none)
   go (Some port) some = refl
 
-end_yes : (blocks : List NestedBlock) (place : ℕ) (block : NestedBlock) (target : Target) → slice_get blocks place ≡ Some block → lacks_end blocks place target ≡ true → HasEnd blocks place block.part target → ⊥
+end_yes : (blocks : List NestedBlock) (place : ℕ) (block : NestedBlock) (target : Target)
+    → slice_get blocks place ≡ Some block → lacks_end blocks place target ≡ true
+    → HasEnd blocks place block.part target → ⊥
 end_yes blocks place block (Port port) at is has = past_yes port (inputs_at blocks place) is (rw (sym (inputs_is blocks place block at)) at has)
 end_yes blocks place block ToEnable at is has = go (enable_port blocks (Some place)) is has where
   go : (o : Option ℕ) → not (is_some o) ≡ true → IsSome o → ⊥
@@ -67,17 +71,22 @@ pub meets : (nested : Nested) (place : ℕ) (block : NestedBlock) → slice_get 
 meets nested place block at none = record {
   leaving = λ k d inside from.
       let line : NestedLine = get_or nested.lines k d in
-      let parts = or_parts (eqb line.from place && lacks_output nested.blocks line) (eqb line.to place && lacks_input nested.blocks line) (any_none (meets_none nested.blocks place) nested.lines none k d inside) in
+      let parts = or_parts (eqb line.from place && lacks_output nested.blocks line)
+      (eqb line.to place && lacks_input nested.blocks line)
+      (any_none (meets_none nested.blocks place) nested.lines none k d inside) in
       let not = and_here (eqb line.from place) (lacks_output nested.blocks line) (eq-eqb line.from place from) parts.0 in
       past_no line.from_port (outputs_of nested.blocks place block.part) (sym (outputs_from nested.blocks place block line at from) ∙ not);
   ending = λ k d inside to.
       let line : NestedLine = get_or nested.lines k d in
-      let parts = or_parts (eqb line.from place && lacks_output nested.blocks line) (eqb line.to place && lacks_input nested.blocks line) (any_none (meets_none nested.blocks place) nested.lines none k d inside) in
+      let parts = or_parts (eqb line.from place && lacks_output nested.blocks line)
+      (eqb line.to place && lacks_input nested.blocks line)
+      (any_none (meets_none nested.blocks place) nested.lines none k d inside) in
       let has : lacks_end nested.blocks line.to line.target ≡ false = and_here (eqb line.to place) (lacks_input nested.blocks line) (eq-eqb line.to place to) parts.1 in
       end_no nested.blocks place block line.target at (ap (λ (p : ℕ). lacks_end nested.blocks p line.target) (sym to) ∙ has);
 }
 
-pub meets_not : (nested : Nested) (place : ℕ) (block : NestedBlock) → slice_get nested.blocks place ≡ Some block → is_lacking nested.blocks nested.lines place ≡ true → MeetsPorts nested place block → ⊥
+pub meets_not : (nested : Nested) (place : ℕ) (block : NestedBlock) → slice_get nested.blocks place ≡ Some block
+    → is_lacking nested.blocks nested.lines place ≡ true → MeetsPorts nested place block → ⊥
 meets_not nested place block at some meets = go (Any-from_list_any (meets_none nested.blocks place) nested.lines some) where
   go : Any (λ line. meets_none nested.blocks place line ≡ true) nested.lines → ⊥
   go (k, line, inside, there, hit) =
@@ -104,7 +113,9 @@ one_of_two n is = omega (arith, is)
 pub two_of_one : (n : ℕ) → n ≡ 1 → min 2 n ≡ 1
 two_of_one n is = rw is refl
 
-cell_has : (blocks : List NestedBlock) (place port : ℕ) (block : NestedBlock) (lengths : List ℕ) → IsTable (length blocks) (inputs_at blocks) lengths → place < length blocks → slice_get blocks place ≡ Some block →
+cell_has : (blocks : List NestedBlock) (place port : ℕ) (block : NestedBlock) (lengths : List ℕ)
+    → IsTable (length blocks) (inputs_at blocks) lengths → place < length blocks
+    → slice_get blocks place ≡ Some block →
     1 ≤ port → port ≤ inputs_of blocks place block.part → HasCell lengths place port
 cell_has blocks place port block lengths are inside at above within = record {
   there = omega (arith, are.size, inside);
@@ -112,7 +123,9 @@ cell_has blocks place port block lengths are inside at above within = record {
   within = omega (arith, within, are.at place 0 inside ∙ inputs_is blocks place block at);
 }
 
-pub all_driven : (nested : Nested) (place : ℕ) (block : NestedBlock) (lengths table : List ℕ) → IsTable (length nested.blocks) (inputs_at nested.blocks) lengths → IsRowTable lengths (port_drivers nested.lines) table →
+pub all_driven : (nested : Nested) (place : ℕ) (block : NestedBlock) (lengths table : List ℕ)
+    → IsTable (length nested.blocks) (inputs_at nested.blocks) lengths
+    → IsRowTable lengths (port_drivers nested.lines) table →
     place < length nested.blocks → slice_get nested.blocks place ≡ Some block →
     ((port : ℕ) → HasCell lengths place port → get_or table (cell_at lengths place port) 0 ≡ 1) →
     (port : ℕ) → 1 ≤ port → port ≤ inputs_of nested.blocks place block.part → drivers nested.lines place (is_port port) ≡ 1
@@ -120,7 +133,9 @@ all_driven nested place block lengths table are is inside at each port above wit
     let has = cell_has nested.blocks place port block lengths are inside at above within in
     one_of_two (drivers nested.lines place (is_port port)) (sym (is.at place port 0 has) ∙ each port has)
 
-pub not_driven : (nested : Nested) (place port : ℕ) (block : NestedBlock) (lengths table : List ℕ) → IsTable (length nested.blocks) (inputs_at nested.blocks) lengths → IsRowTable lengths (port_drivers nested.lines) table →
+pub not_driven : (nested : Nested) (place port : ℕ) (block : NestedBlock) (lengths table : List ℕ)
+    → IsTable (length nested.blocks) (inputs_at nested.blocks) lengths
+    → IsRowTable lengths (port_drivers nested.lines) table →
     place < length nested.blocks → slice_get nested.blocks place ≡ Some block → HasCell lengths place port → (get_or table (cell_at lengths place port) 0 ≡ 1 → ⊥) →
     KeepsWiring nested place block → ⊥
 not_driven nested place port block lengths table are is inside at has not keeps =
@@ -129,7 +144,8 @@ not_driven nested place port block lengths table are is inside at has not keeps 
 
 -- ---- numbers
 
-pub numbered_unique : (blocks : List NestedBlock) (side : Side) (slot number : ℕ) (found other : Option ℕ) → IsNumberedAt blocks side slot number found → IsNumberedAt blocks side slot number other → found ≡ other
+pub numbered_unique : (blocks : List NestedBlock) (side : Side) (slot number : ℕ) (found other : Option ℕ)
+    → IsNumberedAt blocks side slot number found → IsNumberedAt blocks side slot number other → found ≡ other
 numbered_unique blocks side slot number found other is its =
     elim (cases_lt number 1) [
       | inl below ↦ is.none (λ has. absurd (omega (arith, has.0, below))) ∙ sym (its.none (λ has. absurd (omega (arith, has.0, below))))
@@ -143,7 +159,9 @@ numbered_unique blocks side slot number found other is its =
 count_back : (blocks : List NestedBlock) (side : Side) (system : Option ℕ) → count_at blocks side (slot_of system) ≡ count_in blocks system (λ part. is_some (number_on side part))
 count_back blocks side system = ap (λ (s : Option ℕ). count_in blocks s (λ part. is_some (number_on side part))) (slot_back system)
 
-numbered_back : (blocks : List NestedBlock) (side : Side) (system : Option ℕ) (number : ℕ) → numbered_at blocks side (slot_of system) number ≡ first_in blocks system (λ part. is_number number (number_on side part))
+numbered_back : (blocks : List NestedBlock) (side : Side) (system : Option ℕ) (number : ℕ)
+    → numbered_at blocks side (slot_of system) number
+    ≡ first_in blocks system (λ part. is_number number (number_on side part))
 numbered_back blocks side system number = ap (λ (s : Option ℕ). first_in blocks s (λ part. is_number number (number_on side part))) (slot_back system)
 
 abbrev pub has_this : Side → Option ℕ → ℕ → NestedBlock → Bool
@@ -187,7 +205,8 @@ numbered_yes blocks side place number block is =
     ]
 
 -- and one that is rightly numbered is found at its own place
-pub numbered_no : (blocks : List NestedBlock) (side : Side) (place number : ℕ) (block : NestedBlock) → slice_get blocks place ≡ Some block → place < length blocks → number_on side block.part ≡ Some number →
+pub numbered_no : (blocks : List NestedBlock) (side : Side) (place number : ℕ) (block : NestedBlock)
+    → slice_get blocks place ≡ Some block → place < length blocks → number_on side block.part ≡ Some number →
     IsNumbered blocks place block.parent (number_on side) number → IsNumberedAt blocks side (slot_of block.parent) number (Some place)
 numbered_no blocks side place number block at inside its is =
     let test = has_this side block.parent number in

@@ -55,7 +55,8 @@ broken_inside nested Keeps place first = some_inside nested.blocks place first.b
 
 -- ---- an Inport, an Outport and an EnablePort
 
-pub in_kept : (nested : Nested) (place number : ℕ) (block : NestedBlock) (own : Block) → block.part ≡ In own number → IsNumberedAt nested.blocks Ins (slot_of block.parent) number (Some place) → KeepsPart nested place block
+pub in_kept : (nested : Nested) (place number : ℕ) (block : NestedBlock) (own : Block) → block.part ≡ In own number
+    → IsNumberedAt nested.blocks Ins (slot_of block.parent) number (Some place) → KeepsPart nested place block
 in_kept nested place number block own e is = record {
   enabled = subst (λ (part : Part). IsDriven nested.lines block.parent part) (sym e) tt;
   in_number = λ n its.
@@ -64,12 +65,17 @@ in_kept nested place number block own e is = record {
   out_number = λ n its. absurd (none-some n (sym (ap out_number e) ∙ its));
 }
 
-pub in_broken : (nested : Nested) (place number : ℕ) (block : NestedBlock) (own : Block) → slice_get nested.blocks place ≡ Some block → block.part ≡ In own number → (IsNumberedAt nested.blocks Ins (slot_of block.parent) number (Some place) → ⊥) → KeepsPart nested place block → ⊥
+pub in_broken : (nested : Nested) (place number : ℕ) (block : NestedBlock) (own : Block)
+    → slice_get nested.blocks place ≡ Some block → block.part ≡ In own number
+    → (IsNumberedAt nested.blocks Ins (slot_of block.parent) number (Some place) → ⊥)
+    → KeepsPart nested place block → ⊥
 in_broken nested place number block own at e not keeps =
     let its = ap in_number e in
     not (numbered_no nested.blocks Ins place number block at (some_inside nested.blocks place block at) its (keeps.in_number number its))
 
-pub out_kept : (nested : Nested) (place number : ℕ) (block : NestedBlock) (own : Block) → block.part ≡ Out own number → IsNumberedAt nested.blocks Outs (slot_of block.parent) number (Some place) → KeepsPart nested place block
+pub out_kept : (nested : Nested) (place number : ℕ) (block : NestedBlock) (own : Block)
+    → block.part ≡ Out own number → IsNumberedAt nested.blocks Outs (slot_of block.parent) number (Some place)
+    → KeepsPart nested place block
 out_kept nested place number block own e is = record {
   enabled = subst (λ (part : Part). IsDriven nested.lines block.parent part) (sym e) tt;
   in_number = λ n its. absurd (none-some n (sym (ap in_number e) ∙ its));
@@ -78,19 +84,26 @@ out_kept nested place number block own e is = record {
       subst (λ (k : ℕ). IsNumbered nested.blocks place block.parent out_number k) same (numbered_yes nested.blocks Outs place number block is);
 }
 
-pub out_broken : (nested : Nested) (place number : ℕ) (block : NestedBlock) (own : Block) → slice_get nested.blocks place ≡ Some block → block.part ≡ Out own number → (IsNumberedAt nested.blocks Outs (slot_of block.parent) number (Some place) → ⊥) → KeepsPart nested place block → ⊥
+pub out_broken : (nested : Nested) (place number : ℕ) (block : NestedBlock) (own : Block)
+    → slice_get nested.blocks place ≡ Some block → block.part ≡ Out own number
+    → (IsNumberedAt nested.blocks Outs (slot_of block.parent) number (Some place) → ⊥)
+    → KeepsPart nested place block → ⊥
 out_broken nested place number block own at e not keeps =
     let its = ap out_number e in
     not (numbered_no nested.blocks Outs place number block at (some_inside nested.blocks place block at) its (keeps.out_number number its))
 
-pub control_kept : (nested : Nested) (place system : ℕ) (block : NestedBlock) (reset : Bool) → block.part ≡ Enable reset → block.parent ≡ Some system → control_drivers nested.lines system ≡ 1 → KeepsPart nested place block
+pub control_kept : (nested : Nested) (place system : ℕ) (block : NestedBlock) (reset : Bool)
+    → block.part ≡ Enable reset → block.parent ≡ Some system → control_drivers nested.lines system ≡ 1
+    → KeepsPart nested place block
 control_kept nested place system block reset e held once = record {
   enabled = subst (λ (part : Part). IsDriven nested.lines block.parent part) (sym e) (ap (enable_drivers nested.lines) held ∙ one_of_two (drivers nested.lines system is_enable_end) once);
   in_number = λ n its. absurd (none-some n (sym (ap in_number e) ∙ its));
   out_number = λ n its. absurd (none-some n (sym (ap out_number e) ∙ its));
 }
 
-pub control_broken : (nested : Nested) (place system : ℕ) (block : NestedBlock) (reset : Bool) → block.part ≡ Enable reset → block.parent ≡ Some system → (control_drivers nested.lines system ≡ 1 → ⊥) → KeepsPart nested place block → ⊥
+pub control_broken : (nested : Nested) (place system : ℕ) (block : NestedBlock) (reset : Bool)
+    → block.part ≡ Enable reset → block.parent ≡ Some system → (control_drivers nested.lines system ≡ 1 → ⊥)
+    → KeepsPart nested place block → ⊥
 control_broken nested place system block reset e held not keeps =
     let once : enable_drivers nested.lines block.parent ≡ 1 = subst (λ (part : Part). IsDriven nested.lines block.parent part) e keeps.enabled in
     not (two_of_one (drivers nested.lines system is_enable_end) (sym (ap (enable_drivers nested.lines) held) ∙ once))

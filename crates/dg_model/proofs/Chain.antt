@@ -50,7 +50,9 @@ chain_solves kind into out input given count gives kept_input kept_given = recor
   at_hits (suc (suc zero)) b port element t shown below hit = (Pass, refl, refl)
   at_hits (suc (suc (suc block))) b port element t shown below hit = let h = shown.block_is in cc
 
-  between_hits : (block : ℕ) (b : Block) (port element t : ℕ) → IsShown (chain kind) (chain_attributes into out) block b port element → t < count → ¬ Hits ((chain_attributes into out).period_at block) t
+  between_hits : (block : ℕ) (b : Block) (port element t : ℕ)
+      → IsShown (chain kind) (chain_attributes into out) block b port element → t < count
+      → ¬ Hits ((chain_attributes into out).period_at block) t
       → chain_table input given block port element t ≡ chain_table input given block port element (last_hit ((chain_attributes into out).period_at block) t)
   between_hits zero b port element t shown below miss = kept_input t below miss
   between_hits (suc zero) b port element t shown below miss = kept_given t below miss

@@ -58,5 +58,7 @@ without_outport = table_of (input ∷ given ∷ [])
 
 not_without_outport : ¬ Solves diagram attributes stimulus 5 without_outport
 not_without_outport solves =
-    let e : ◌≡◌ {A = ℤ} (pos 0) (pos 7) = carried_out diagram attributes stimulus without_outport (block_of (Outport 1) 1 0 None) 2 0 0 (pos 0) OpPass (λ op is. is) (solves.at_hits 2 _ 1 0 0 shown_outport (lit< tt) refl) in
+    let e : ◌≡◌ {A = ℤ} (pos 0) (pos 7) =
+    carried_out diagram attributes stimulus without_outport (block_of (Outport 1) 1 0 None) 2 0 0 (pos 0) OpPass
+    (λ op is. is) (solves.at_hits 2 _ 1 0 0 shown_outport (lit< tt) refl) in
     cc

@@ -21,14 +21,22 @@ diagram = record {
   blocks = block_of (Inport 1 0) 0 1 None ∷ block_of (Gain (decimal_of 2 (lit< tt) ∷ []) SameFirst) 1 1 None ∷ block_of Product 2 1 None
       ∷ block_of (Switch AtLeast (decimal_of 4 (lit< tt) ∷ [])) 3 1 None ∷ block_of (Relational Lt) 2 1 None ∷ block_of (Logic Xor) 2 1 None
       ∷ block_of (Convert false) 1 1 None ∷ block_of (Convert true) 1 1 None ∷ block_of (Outport 1) 1 0 None ∷ [];
-  edges = edge_of 0 1 1 1 ∷ edge_of 0 1 2 1 ∷ edge_of 0 1 2 2 ∷ edge_of 1 1 3 1 ∷ edge_of 0 1 3 2 ∷ edge_of 2 1 3 3 ∷ edge_of 0 1 4 1 ∷ edge_of 2 1 4 2 ∷ edge_of 0 1 5 1 ∷ edge_of 0 1 5 2 ∷ edge_of 0 1 6 1 ∷ edge_of 0 1 7 1 ∷ edge_of 3 1 8 1 ∷ [];
+  edges = edge_of 0 1 1 1 ∷ edge_of 0 1 2 1 ∷ edge_of 0 1 2 2 ∷ edge_of 1 1 3 1 ∷ edge_of 0 1 3 2 ∷ edge_of 2 1 3 3
+      ∷ edge_of 0 1 4 1 ∷ edge_of 2 1 4 2 ∷ edge_of 0 1 5 1 ∷ edge_of 0 1 5 2 ∷ edge_of 0 1 6 1 ∷ edge_of 0 1 7 1
+      ∷ edge_of 3 1 8 1 ∷ [];
 }
 
 abbrev halves : FxType
 halves = Num true 8 (pos 1)
 
 abbrev attributes : Attributes
-attributes = record { width_at = λ block port. 1; type_at = λ block port. get_or (int8 ∷ int8 ∷ int8 ∷ int8 ∷ Boolean ∷ Boolean ∷ halves ∷ halves ∷ []) block int8; param_at = λ block. int8; period_at = λ block. None }
+attributes = record {
+  width_at = λ block port. 1;
+  type_at =
+      λ block port. get_or (int8 ∷ int8 ∷ int8 ∷ int8 ∷ Boolean ∷ Boolean ∷ halves ∷ halves ∷ []) block int8;
+  param_at = λ block. int8;
+  period_at = λ block. None;
+}
 
 -- 3, 6, 9, the third input since 3 is below 4, true, false, 6 halves, 3 halves
 abbrev table : Table

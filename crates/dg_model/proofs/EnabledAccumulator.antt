@@ -89,7 +89,9 @@ outport : (reset : Bool) (port element t : ℕ) → IsRight reset 6 port element
 outport false port element t = (OpPass, refl, refl)
 outport true port element t = (OpPass, refl, refl)
 
-at_hits : (reset : Bool) (block : ℕ) (b : Block) (port element t : ℕ) → IsShown (diagram reset) attributes block b port element → t < 4 → Hits (attributes.period_at block) t → IsRight reset block port element t
+at_hits : (reset : Bool) (block : ℕ) (b : Block) (port element t : ℕ)
+    → IsShown (diagram reset) attributes block b port element → t < 4 → Hits (attributes.period_at block) t
+    → IsRight reset block port element t
 at_hits reset zero b port element t shown below hit = inport reset port element t
 at_hits reset (suc zero) b port element t shown below hit = enable reset port element t below
 at_hits reset (suc (suc zero)) b port element t shown below hit = delay reset port element t below

@@ -54,7 +54,9 @@ output : (reset : Bool) (port element t : ℕ) → t < 4 → IsRight reset 4 por
 output false port element = below_of (IsRight false 4 port element) 4 (stores_small 0 (lit< tt) (lit< tt), (stores_small 0 (lit< tt) (lit< tt), (refl, (refl, tt))))
 output true port element = below_of (IsRight true 4 port element) 4 (stores_small 0 (lit< tt) (lit< tt), (stores_small 0 (lit< tt) (lit< tt), (refl, (stores_small 0 (lit< tt) (lit< tt), tt))))
 
-at_hits : (reset : Bool) (block : ℕ) (b : Block) (port element t : ℕ) → IsShown (diagram reset) attributes block b port element → t < 4 → Hits (attributes.period_at block) t → IsRight reset block port element t
+at_hits : (reset : Bool) (block : ℕ) (b : Block) (port element t : ℕ)
+    → IsShown (diagram reset) attributes block b port element → t < 4 → Hits (attributes.period_at block) t
+    → IsRight reset block port element t
 at_hits reset zero b port element t shown below hit = refl
 at_hits reset (suc zero) b port element t shown below hit = refl
 at_hits reset (suc (suc zero)) b port element t shown below hit = enable reset port element t below

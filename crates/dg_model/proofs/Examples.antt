@@ -59,7 +59,8 @@ pub down : {n r : ℤ} {d : ℕ} → T (le_z (r *ℤ pos d) n) → T (lt_z n (r 
 down at_most above = record { at_most = le_z_yes at_most; next_above = lt_z_yes above }
 
 -- a number in range, so many turns from a rounded one, is what that wraps to
-pub wrapped : {v r : ℤ} (signed : Bool) (width : ℕ) (turns : ℤ) → T (le_z (lowest_of (Num signed width (pos 0))) r) → T (le_z r (highest_of (Num signed width (pos 0)))) → r ≡ v +ℤ turns *ℤ pos (2 ^ width) →
+pub wrapped : {v r : ℤ} (signed : Bool) (width : ℕ) (turns : ℤ) → T (le_z (lowest_of (Num signed width (pos 0))) r)
+    → T (le_z r (highest_of (Num signed width (pos 0)))) → r ≡ v +ℤ turns *ℤ pos (2 ^ width) →
     Settles (Num signed width (pos 0)) false v r
 wrapped signed width turns low high equal = record { in_word = record { low = le_z_yes low; high = le_z_yes high }; congruent = record { turns = turns; equal = equal } }
 
@@ -77,7 +78,16 @@ table_of_vectors rows block port element t = get_or (get_or (get_or rows block [
 
 -- a decimal of these digits and places behind the point, with its sign
 abbrev pub fraction_of : (negative : Bool) (n : ℕ) → n < 10 ^ 18 → (exponent : ℤ) → T (le_z (negsuc 35) exponent) → T (le_z exponent (pos 18)) → Decimal
-fraction_of negative n small exponent least greatest = record { negative = negative; digits = n; exponent = exponent; eighteen_digits = small; least_exponent = le_z_yes least; greatest_exponent = le_z_yes greatest }
+fraction_of negative n small exponent least greatest =
+    record {
+      negative = negative;
+      digits = n;
+      exponent =
+          exponent;
+      eighteen_digits = small;
+      least_exponent = le_z_yes least;
+      greatest_exponent = le_z_yes greatest;
+    }
 
 -- what a block's operation gives, where only one operation may be its own
 pub carried_out : (diagram : Diagram) (attributes : Attributes) (stimulus : Stimulus) (table : Table) (b : Block) (block element t : ℕ) (v : ℤ) (known : Op) →
@@ -85,7 +95,16 @@ pub carried_out : (diagram : Diagram) (attributes : Attributes) (stimulus : Stim
     OpGives (record { op = known; signs = signs_of b.kind; types = types_into diagram attributes block b.inputs; result = attributes.type_at block 1; rounding = b.rounding; saturate = b.saturate })
     (values_into diagram attributes table block b.inputs element t) v
 carried_out diagram attributes stimulus table b block element t v known only given =
-    subst (λ (op : Op). OpGives (record { op = op; signs = signs_of b.kind; types = types_into diagram attributes block b.inputs; result = attributes.type_at block 1; rounding = b.rounding; saturate = b.saturate }) (values_into diagram attributes table block b.inputs element t) v)
+    subst (λ (op : Op). OpGives (record {
+      op = op;
+      signs = signs_of b.kind;
+      types =
+          types_into diagram attributes block b.inputs;
+      result = attributes.type_at block 1;
+      rounding =
+          b.rounding;
+      saturate = b.saturate;
+    }) (values_into diagram attributes table block b.inputs element t) v)
     (only (given.0) (given.1)) (given.2)
 
 -- a decimal is stored as one number

@@ -81,7 +81,10 @@ restless = table_of_vectors (((pos 3 ∷ pos 4 ∷ []) ∷ (pos 3 ∷ pos 5 ∷ 
 
 not_restless : ¬ Solves diagram attributes stimulus 2 restless
 not_restless solves =
-    let e : ◌≡◌ {A = ℤ} (pos 5) (pos 4) = solves.between_hits 0 (block_of (Inport 1 2) 0 1 None) 1 1 1 (record { block_is = refl; port_from = lit≤ tt; port_to = lit≤ tt; element_below = lit< tt }) (lit< tt) (λ hit. absurd (omega (arith, hit))) in
+    let e : ◌≡◌ {A = ℤ} (pos 5) (pos 4) =
+    solves.between_hits 0 (block_of (Inport 1 2) 0 1 None) 1 1 1
+    (record { block_is = refl; port_from = lit≤ tt; port_to = lit≤ tt; element_below = lit< tt }) (lit< tt)
+    (λ hit. absurd (omega (arith, hit))) in
     cc
 
 -- a value that never changes is taken at 0 alone

@@ -42,7 +42,9 @@ sum_saturates = (
 wide_full : IsFullProduct (Num true 64 (pos 0)) (Num true 64 (pos 0)) (Num true 128 (pos 0))
 wide_full = record { valid = ((lit≤ tt, lit≤ tt), le_z_yes tt, le_z_yes tt); number = tt; width = refl; frac = refl; sign = refl }
 
-wide_product : OpGives (operation_of Product [] (Num true 64 (pos 0) ∷ Num true 64 (pos 0) ∷ []) (Num true 128 (pos 0)) false) (negsuc 9223372036854775807 ∷ negsuc 9223372036854775807 ∷ []) (pos 85070591730234615865843651857942052864)
+wide_product : OpGives (operation_of Product [] (Num true 64 (pos 0) ∷ Num true 64 (pos 0) ∷ [])
+    (Num true 128 (pos 0)) false) (negsuc 9223372036854775807 ∷ negsuc 9223372036854775807 ∷ [])
+    (pos 85070591730234615865843651857942052864)
 wide_product = (Num true 128 (pos 0), wide_full, record { rounded = pos 85070591730234615865843651857942052864; rounds = down tt tt; settles = wrapped true 128 (pos 0) tt tt refl })
 
 -- the product of types of 65 and 64 bits is none

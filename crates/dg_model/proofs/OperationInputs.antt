@@ -78,7 +78,16 @@ gain : Allows 2 0 (pos 5) × Allows 2 1 (pos 127)
 gain = (
   (
     OpGain (pos 3) halves,
-    (pos 3, record { rounded = pos 3; rounds = record { above = lt_z_yes tt; at_most = le_z_yes tt }; settles = record { inside = λ h. refl; below = λ h. absurd h.lt; above = λ h. absurd h.lt } }, refl),
+    (
+      pos 3,
+      record {
+        rounded = pos 3;
+        rounds = record { above = lt_z_yes tt; at_most = le_z_yes tt };
+        settles =
+            record { inside = λ h. refl; below = λ h. absurd h.lt; above = λ h. absurd h.lt };
+      },
+      refl,
+    ),
     (
       Num true 16 (pos 1),
       record { valid = ((lit≤ tt, lit≤ tt), le_z_yes tt, le_z_yes tt); number = tt; width = refl; frac = refl; sign = refl },
@@ -87,7 +96,16 @@ gain = (
   ),
   (
     OpGain (pos 5) halves,
-    (pos 5, record { rounded = pos 5; rounds = record { above = lt_z_yes tt; at_most = le_z_yes tt }; settles = record { inside = λ h. refl; below = λ h. absurd h.lt; above = λ h. absurd h.lt } }, refl),
+    (
+      pos 5,
+      record {
+        rounded = pos 5;
+        rounds = record { above = lt_z_yes tt; at_most = le_z_yes tt };
+        settles =
+            record { inside = λ h. refl; below = λ h. absurd h.lt; above = λ h. absurd h.lt };
+      },
+      refl,
+    ),
     (
       Num true 16 (pos 1),
       record { valid = ((lit≤ tt, lit≤ tt), le_z_yes tt, le_z_yes tt); number = tt; width = refl; frac = refl; sign = refl },
@@ -100,8 +118,36 @@ gain = (
 
 switch : Allows 3 0 (pos 3) × Allows 3 1 (pos 9)
 switch = (
-  (OpSwitch AtLeast (pos 2), (pos 2, record { rounded = pos 2; rounds = record { above = lt_z_yes tt; at_most = le_z_yes tt }; settles = record { inside = λ h. refl; below = λ h. absurd h.lt; above = λ h. absurd h.lt } }, refl), kept (pos 3) tt tt),
-  (OpSwitch AtLeast (pos 4), (pos 4, record { rounded = pos 4; rounds = record { above = lt_z_yes tt; at_most = le_z_yes tt }; settles = record { inside = λ h. refl; below = λ h. absurd h.lt; above = λ h. absurd h.lt } }, refl), kept (pos 9) tt tt),
+  (
+    OpSwitch AtLeast (pos 2),
+    (
+      pos 2,
+      record {
+        rounded = pos 2;
+        rounds =
+            record { above = lt_z_yes tt; at_most = le_z_yes tt };
+        settles =
+            record { inside = λ h. refl; below = λ h. absurd h.lt; above = λ h. absurd h.lt };
+      },
+      refl,
+    ),
+    kept (pos 3) tt tt,
+  ),
+  (
+    OpSwitch AtLeast (pos 4),
+    (
+      pos 4,
+      record {
+        rounded = pos 4;
+        rounds =
+            record { above = lt_z_yes tt; at_most = le_z_yes tt };
+        settles =
+            record { inside = λ h. refl; below = λ h. absurd h.lt; above = λ h. absurd h.lt };
+      },
+      refl,
+    ),
+    kept (pos 9) tt tt,
+  ),
 )
 
 constant : Allows 4 0 (pos 9)
@@ -114,20 +160,59 @@ outport = ((OpPass, refl, refl), (OpPass, refl, refl))
 
 convert : Allows 7 0 (pos 1) × Allows 7 1 (pos 2)
 convert = (
-  (OpConvert false, refl, record { rounded = pos 1; rounds = record { at_least = le_z_yes tt; previous_below = lt_z_yes tt }; settles = record { in_word = record { low = le_z_yes tt; high = le_z_yes tt }; congruent = record { turns = pos 0; equal = refl } } }),
-  (OpConvert false, refl, record { rounded = pos 2; rounds = record { at_least = le_z_yes tt; previous_below = lt_z_yes tt }; settles = record { in_word = record { low = le_z_yes tt; high = le_z_yes tt }; congruent = record { turns = pos 0; equal = refl } } }),
+  (
+    OpConvert false,
+    refl,
+    record {
+      rounded = pos 1;
+      rounds =
+          record { at_least = le_z_yes tt; previous_below = lt_z_yes tt };
+      settles =
+          record {
+            in_word = record { low = le_z_yes tt; high = le_z_yes tt };
+            congruent =
+                record { turns = pos 0; equal = refl };
+          };
+    },
+  ),
+  (
+    OpConvert false,
+    refl,
+    record {
+      rounded = pos 2;
+      rounds =
+          record { at_least = le_z_yes tt; previous_below = lt_z_yes tt };
+      settles =
+          record {
+            in_word = record { low = le_z_yes tt; high = le_z_yes tt };
+            congruent =
+                record { turns = pos 0; equal = refl };
+          };
+    },
+  ),
 )
 
 -- ---- and no other numbers
 
 abbrev given_by : Block → ℕ → ℕ → ℤ → Op → Type 0
 given_by b block element v op =
-    OpGives (record { op = op; signs = signs_of b.kind; types = types_into diagram attributes block b.inputs; result = attributes.type_at block 1; rounding = b.rounding; saturate = b.saturate }) (values_into diagram attributes table block b.inputs element 0) v
+    OpGives (record {
+      op = op;
+      signs = signs_of b.kind;
+      types =
+          types_into diagram attributes block b.inputs;
+      result = attributes.type_at block 1;
+      rounding =
+          b.rounding;
+      saturate = b.saturate;
+    }) (values_into diagram attributes table block b.inputs element 0) v
 
 half_valid : IsType halves
 half_valid = ((lit≤ tt, lit≤ tt), le_z_yes tt, le_z_yes tt)
 
-gain_given : (element : ℕ) (v : ℤ) (decimal : Decimal) (coefficient : ℤ) → entry_of coefficients element ≡ Some decimal → stored_of decimal halves ≡ coefficient → Allows 2 element v → given_by gain_block 2 element v (OpGain coefficient halves)
+gain_given : (element : ℕ) (v : ℤ) (decimal : Decimal) (coefficient : ℤ)
+    → entry_of coefficients element ≡ Some decimal → stored_of decimal halves ≡ coefficient → Allows 2 element v
+    → given_by gain_block 2 element v (OpGain coefficient halves)
 gain_given element v decimal coefficient at is given =
     carried_out diagram attributes stimulus table gain_block 2 element 0 v (OpGain coefficient halves)
     (λ op is_op.

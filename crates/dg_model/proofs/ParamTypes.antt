@@ -18,7 +18,9 @@ use Rattle.math_list.proofs.Searches.{Some≢None, one_answer, IsFirst, NonePass
 use Rattle.fx_type.proofs.Decimals.{nearest_only, rounded_rounds, Decides-in_range}
 use Rattle.dg_model.specs.GainParam.{is_zero, is_param_signed, param_width, FitsAt, IsGreatestFit, IsInternalParam, fits_at, frac_down, greatest_fit_of, internal_param_of, ParamTypeIsOne}
 
-Decides-element : (s : Bool) (w : ℕ) (f : ℤ) (decimal : Decimal) → Decides (is_in_range (Num s w f) (rounded_of decimal f)) ((r : ℤ) × (stored : Stores decimal (Num s w f) r) × InRange (Num s w f) stored.rounded)
+Decides-element : (s : Bool) (w : ℕ) (f : ℤ) (decimal : Decimal)
+    → Decides (is_in_range (Num s w f) (rounded_of decimal f))
+    ((r : ℤ) × (stored : Stores decimal (Num s w f) r) × InRange (Num s w f) stored.rounded)
 Decides-element s w f decimal =
     let d = Decides-in_range (Num s w f) (rounded_of decimal f) in (
       (λ e.

@@ -65,7 +65,9 @@ above_first : (low : ℕ) (x : Edge) (xs : List Edge) → NoneBelow x.to_port xs
 above_first low x xs none zero edge at least = subst (λ (e : Edge). low ≤ e.to_port) (same_Some x edge at) least
 above_first low x xs none (suc k) edge at least = omega (arith, none.above k edge at)
 
-first_then : (low n : ℕ) (x : Edge) (xs : List Edge) → x.to_port ≡ low → map (λ port. find (at_port port) xs) (numbers_from (suc low) n) ≡ map Some xs → map (λ port. find (at_port port) (x ∷ xs)) (numbers_from low (suc n)) ≡ map Some (x ∷ xs)
+first_then : (low n : ℕ) (x : Edge) (xs : List Edge) → x.to_port ≡ low
+    → map (λ port. find (at_port port) xs) (numbers_from (suc low) n) ≡ map Some xs
+    → map (λ port. find (at_port port) (x ∷ xs)) (numbers_from low (suc n)) ≡ map Some (x ∷ xs)
 first_then low n x xs first later =
     let head : find (at_port low) (x ∷ xs) ≡ Some x = found_here low x xs first in
     let tail : map (λ port. find (at_port port) (x ∷ xs)) (numbers_from (suc low) n) ≡ map Some xs =
@@ -73,7 +75,9 @@ first_then low n x xs first later =
     cc
 
 -- where each of n ports from `low` on is met once, the ports don't fall and there are no others, the edges are what is found port by port
-in_order : (low n : ℕ) (edges : List Edge) → AreOrdered edges → NoneBelow low edges → ((k : ℕ) (edge : Edge) → slice_get edges k ≡ Some edge → edge.to_port < low + n) → ((port : ℕ) → low ≤ port → port < low + n → count_by (at_port port) edges ≡ 1) →
+in_order : (low n : ℕ) (edges : List Edge) → AreOrdered edges → NoneBelow low edges
+    → ((k : ℕ) (edge : Edge) → slice_get edges k ≡ Some edge → edge.to_port < low + n)
+    → ((port : ℕ) → low ≤ port → port < low + n → count_by (at_port port) edges ≡ 1) →
     map (λ port. find (at_port port) edges) (numbers_from low n) ≡ map Some edges
 in_order low zero [] ordered below above once = refl
 in_order low zero (x ∷ xs) ordered below above once = absurd (omega (arith, below.above 0 x refl, above 0 x refl))
@@ -104,7 +108,9 @@ into_from : (P : Edge → Type 0) (to : ℕ) (edges : List Edge) → ((j : ℕ) 
     (k : ℕ) (edge : Edge) → slice_get (filter (λ edge. edge.to == to) edges) k ≡ Some edge → P edge
 into_from P to [] all k edge at = absurd (none-some edge at)
 into_from P to (x ∷ xs) all k edge at = go (eqb x.to to) refl (into_from P to xs (λ j e is same. all (suc j) e is same)) k at where
-  go : (b : Bool) → eqb x.to to ≡ b → ((i : ℕ) (z : Edge) → slice_get (filter (λ edge. edge.to == to) xs) i ≡ Some z → P z) → (i : ℕ) → slice_get (cond b (x ∷ filter (λ edge. edge.to == to) xs) (filter (λ edge. edge.to == to) xs)) i ≡ Some edge → P edge
+  go : (b : Bool) → eqb x.to to ≡ b → ((i : ℕ) (z : Edge) → slice_get (filter (λ edge. edge.to == to) xs) i ≡ Some z
+      → P z) → (i : ℕ) → slice_get (cond b (x ∷ filter (λ edge. edge.to == to) xs)
+      (filter (λ edge. edge.to == to) xs)) i ≡ Some edge → P edge
   go true e later zero here = subst P (same_Some x edge here) (all 0 x refl (eqb-true x.to to e))
   go true e later (suc i) here = later i edge here
   go false e later i here = later i edge here
@@ -125,20 +131,31 @@ into_ordered : (to : ℕ) (edges : List Edge) → AllPairs StandsBefore edges �
 into_ordered to [] pairs = tt
 into_ordered to (x ∷ xs) pairs = go (eqb x.to to) refl (into_ordered to xs (pairs_later x xs pairs)) where
   go : (b : Bool) → eqb x.to to ≡ b → AreOrdered (filter (λ edge. edge.to == to) xs) → AreOrdered (cond b (x ∷ filter (λ edge. edge.to == to) xs) (filter (λ edge. edge.to == to) xs))
-  go true e later = (record { above = into_from (λ (edge : Edge). x.to_port ≤ edge.to_port) to xs (λ j edge at same. port_before x edge to (eqb-true x.to to e) same (pairs_first x xs pairs j edge at)) }, later)
+  go true e later = (
+    record {
+      above = into_from (λ (edge : Edge). x.to_port ≤ edge.to_port) to xs
+          (λ j edge at same. port_before x edge to (eqb-true x.to to e) same (pairs_first x xs pairs j edge at));
+    },
+    later,
+  )
   go false e later = later
 
 found_into : (to port : ℕ) (edges : List Edge) → find (enters to port) edges ≡ find (at_port port) (filter (λ edge. edge.to == to) edges)
 found_into to port [] = refl
 found_into to port (x ∷ xs) = go (eqb x.to to) (found_into to port xs) where
-  go : (b : Bool) → find (enters to port) xs ≡ find (at_port port) (filter (λ edge. edge.to == to) xs) → cond (b && eqb x.to_port port) (Some x) (find (enters to port) xs) ≡ find (at_port port) (cond b (x ∷ filter (λ edge. edge.to == to) xs) (filter (λ edge. edge.to == to) xs))
+  go : (b : Bool) → find (enters to port) xs ≡ find (at_port port) (filter (λ edge. edge.to == to) xs)
+      → cond (b && eqb x.to_port port) (Some x) (find (enters to port) xs)
+      ≡ find (at_port port) (cond b (x ∷ filter (λ edge. edge.to == to) xs) (filter (λ edge. edge.to == to) xs))
   go true later = ap (cond (eqb x.to_port port) (Some x)) later
   go false later = later
 
 counted_into : (to port : ℕ) (edges : List Edge) → count_by (enters to port) edges ≡ count_by (at_port port) (filter (λ edge. edge.to == to) edges)
 counted_into to port [] = refl
 counted_into to port (x ∷ xs) = sum_by-cons (λ (e : Edge). cond (enters to port e) 1 0) x xs ∙ go (eqb x.to to) (counted_into to port xs) where
-  go : (b : Bool) → count_by (enters to port) xs ≡ count_by (at_port port) (filter (λ edge. edge.to == to) xs) → cond (b && eqb x.to_port port) 1 0 + count_by (enters to port) xs ≡ count_by (at_port port) (cond b (x ∷ filter (λ edge. edge.to == to) xs) (filter (λ edge. edge.to == to) xs))
+  go : (b : Bool) → count_by (enters to port) xs ≡ count_by (at_port port) (filter (λ edge. edge.to == to) xs)
+      → cond (b && eqb x.to_port port) 1 0 + count_by (enters to port) xs
+      ≡ count_by (at_port port)
+      (cond b (x ∷ filter (λ edge. edge.to == to) xs) (filter (λ edge. edge.to == to) xs))
   go true later = ap (λ (n : ℕ). cond (eqb x.to_port port) 1 0 + n) later ∙ sym (counted port x (filter (λ edge. edge.to == to) xs))
   go false later = omega (arith, later)
 
@@ -153,7 +170,9 @@ pub joins : (diagram : Diagram) (k : ℕ) (edge : Edge) → IsWired diagram → 
 joins diagram k edge wired at = subst (Joins diagram.blocks) (get_or_from_slice_get diagram.edges k edge edge at) (wired.edges k edge (slice_get_within diagram.edges k edge at))
 
 -- the drivers of a block's ports in order are the edges into it
-pub drivers_are_edges : (diagram : Diagram) (place : ℕ) (block : Block) → IsWired diagram → slice_get diagram.blocks place ≡ Some block → map (driver_of diagram place) (numbers_from 1 block.inputs) ≡ map Some (edges_into diagram place)
+pub drivers_are_edges : (diagram : Diagram) (place : ℕ) (block : Block) → IsWired diagram
+    → slice_get diagram.blocks place ≡ Some block
+    → map (driver_of diagram place) (numbers_from 1 block.inputs) ≡ map Some (edges_into diagram place)
 drivers_are_edges diagram place block wired at =
     let edges = edges_into diagram place in
     let ports : (j : ℕ) (edge : Edge) → slice_get diagram.edges j ≡ Some edge → edge.to ≡ place → (1 ≤ edge.to_port) × (edge.to_port ≤ block.inputs) = λ j edge here same.

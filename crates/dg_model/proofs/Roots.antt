@@ -1,5 +1,6 @@
 -- The list of root elements has each element of each root port of a wired diagram at one place, and no other.
-use Rattle.std.proofs.Common.{◌≡◌, ℕ, zero, suc, ◌+◌, ◌<◌, ◌≤◌, Bool, true, false, true≢false, List, [], ◌∷◌, ◌++◌, length, map, cond, Some, None, Option, eqb, ltb, get_or, refl, sym, ap, subst, ◌∙◌, ◌⊎◌, inl, inr, arith}
+use Rattle.std.proofs.Common.{◌≡◌, ℕ, zero, suc, ◌+◌, ◌<◌, ◌≤◌, Bool, true, false, true≢false, List, [], ◌∷◌, ◌++◌, length, map, cond, Some, None, Option, eqb, ltb, get_or, refl, sym, ap, subst, ◌∙◌}
+use Rattle.std.proofs.Common.{◌⊎◌, inl, inr, arith}
 use Rattle.std.specs.Prelude.{⊤, find, slice_get, AllPairs, filter_map, ◌==◌, ◌&&◌, ◌≢◌}
 use Rattle.std.specs.List.{flat_map, position, position_or_len, cons_option}
 use Rattle.std.proofs.lemmas.Bool.{cases_eq, cases_Bool, eqb-true, eq-eqb, cond-true, lt-ltb}
@@ -63,13 +64,16 @@ in_filter_map {A} {B} h x y (z ∷ xs) (suc k) is gives = go (h z) (in_filter_ma
 -- ---- one block has a number
 
 -- two with one number can't stand at two places
-pub apart : {A : Type 0} (h : A → Option ℕ) (xs : List A) → AllPairs (λ (number other : ℕ). number ≢ other) (filter_map h xs) → (i j : ℕ) (x y : A) (n : ℕ) → i < j → slice_get xs i ≡ Some x → slice_get xs j ≡ Some y →
+pub apart : {A : Type 0} (h : A → Option ℕ) (xs : List A)
+    → AllPairs (λ (number other : ℕ). number ≢ other) (filter_map h xs) → (i j : ℕ) (x y : A) (n : ℕ) → i < j
+    → slice_get xs i ≡ Some x → slice_get xs j ≡ Some y →
     h x ≡ Some n → h y ≡ Some n → ⊥
 apart h [] pairs i j x y n before at_i at_j gives_x gives_y = none-some x at_i
 apart h (z ∷ xs) pairs i zero x y n before at_i at_j gives_x gives_y = absurd (omega (arith, before))
 apart h (z ∷ xs) pairs zero (suc j) x y n before at_i at_j gives_x gives_y =
     let here : h z ≡ Some n = ap h (same_Some z x at_i) ∙ gives_x in
-    let pairs_here : AllPairs (λ (number other : ℕ). number ≢ other) (n ∷ filter_map h xs) = subst (λ o. AllPairs (λ (number other : ℕ). number ≢ other) (cons_option o (filter_map h xs))) here pairs in
+    let pairs_here : AllPairs (λ (number other : ℕ). number ≢ other) (n ∷ filter_map h xs) =
+    subst (λ o. AllPairs (λ (number other : ℕ). number ≢ other) (cons_option o (filter_map h xs))) here pairs in
     let later = in_filter_map h y n xs j at_j gives_y in
     pairs_here 0 (suc later.0) n (omega arith) (omega (arith, slice_get_within (filter_map h xs) (later.0) n (later.1))) (sym (get_or_from_slice_get (filter_map h xs) (later.0) n n (later.1)))
 apart {A} h (z ∷ xs) pairs (suc i) (suc j) x y n before at_i at_j gives_x gives_y = apart h xs (go (h z) pairs) i j x y n (omega (arith, before)) at_i at_j gives_x gives_y where
@@ -92,7 +96,9 @@ first_is number_of blocks pairs block b number at is =
     let place : position_or_len (has_number number_of number) blocks ≡ block =
     position_or_len_is (has_number number_of number) blocks block b (omega (arith, inside))
     (λ k before. elim (cases_Bool (has_number number_of number (get_or blocks k b))) [
-      | inl is_same ↦ absurd (apart (number_in number_of) blocks pairs k block (get_or blocks k b) b number before (slice_get-get_or blocks k b (omega (arith, before, inside))) at (is_number_true number (number_in number_of (get_or blocks k b)) is_same) is)
+      | inl is_same ↦ absurd (apart (number_in number_of) blocks pairs k block (get_or blocks k b) b number before
+          (slice_get-get_or blocks k b (omega (arith, before, inside))) at
+          (is_number_true number (number_in number_of (get_or blocks k b)) is_same) is)
       | inr other ↦ other
     ])
     (λ within. subst (λ (o : Block). has_number number_of number o ≡ true) (sym (get_or_from_slice_get blocks block b b at)) (number_is number (number_in number_of b) is)) in
@@ -112,7 +118,9 @@ element_is_there number_of width_of diagram attributes are block b number elemen
     let within = number_within numbers number are (in_filter_map (number_in number_of) b number diagram.blocks block at is) in
     let counted = in_numbers 1 (length numbers) number (within.0) (omega (arith, within.1)) in
     let listed = in_numbers 0 (width_of block) element (omega arith) (omega (arith, inside)) in
-    in_flat_map (λ number. elements_of_port attributes width_of number (position (has_number number_of number) diagram.blocks)) number (root_element attributes number block element) (numbers_from 1 (length numbers)) (counted.0) (counted.1)
+    in_flat_map (λ number. elements_of_port attributes width_of number
+    (position (has_number number_of number) diagram.blocks)) number
+    (root_element attributes number block element) (numbers_from 1 (length numbers)) (counted.0) (counted.1)
     (rw (first_is number_of diagram.blocks are.distinct block b number at is) (in_map (root_element attributes number block) element (numbers_from 0 (width_of block)) (listed.0) (listed.1)))
 
 -- ---- and no other
@@ -144,7 +152,8 @@ position_is p [] block is = absurd (none-some block is)
 position_is p (x ∷ blocks) block is =
     let found = position-Some p (x ∷ blocks) block x is in (get_or (x ∷ blocks) block x, slice_get-get_or (x ∷ blocks) block x (found.0), found.1)
 
-of_port : (number_of : Role → Option ℕ) (width_of : ℕ → ℕ) (diagram : Diagram) (attributes : Attributes) (e : RootElement) (number : ℕ) (o : Option ℕ) → position (has_number number_of number) diagram.blocks ≡ o →
+of_port : (number_of : Role → Option ℕ) (width_of : ℕ → ℕ) (diagram : Diagram) (attributes : Attributes)
+    (e : RootElement) (number : ℕ) (o : Option ℕ) → position (has_number number_of number) diagram.blocks ≡ o →
     IsIn e (elements_of_port attributes width_of number o) → IsElementOfPort number_of width_of diagram attributes e
 of_port number_of width_of diagram attributes e number None at is = absurd (none-some e (is.1))
 of_port number_of width_of diagram attributes e number (Some block) at is =
@@ -153,7 +162,8 @@ of_port number_of width_of diagram attributes e number (Some block) at is =
     let within = from_numbers 0 (width_of block) (of.0) (of.1.0) (of.1.1) in
     subst (IsElementOfPort number_of width_of diagram attributes) (sym (of.2)) (found.0, found.1, is_number_true number (number_in number_of (found.0)) (found.2), omega (arith, within.1), refl)
 
-pub is_element : (number_of : Role → Option ℕ) (width_of : ℕ → ℕ) (diagram : Diagram) (attributes : Attributes) (place : ℕ) (e : RootElement) → slice_get (root_elements number_of width_of diagram attributes) place ≡ Some e →
+pub is_element : (number_of : Role → Option ℕ) (width_of : ℕ → ℕ) (diagram : Diagram) (attributes : Attributes)
+    (place : ℕ) (e : RootElement) → slice_get (root_elements number_of width_of diagram attributes) place ≡ Some e →
     IsElementOfPort number_of width_of diagram attributes e
 is_element number_of width_of diagram attributes place e at =
     let part : ℕ → List RootElement = λ number. elements_of_port attributes width_of number (position (has_number number_of number) diagram.blocks) in
@@ -181,13 +191,17 @@ find_passes {A} p (z ∷ xs) (suc k) x is passes = go (p z) refl (find_passes p 
   go true same later = (z, refl, same, (0, refl))
   go false other later = (later.0, later.1, later.2, in_later (later.0) z xs (later.3))
 
-same_element : (attributes : Attributes) (e : RootElement) (number block element : ℕ) → e ≡ root_element attributes e.number e.block e.element → e.number ≡ number → e.block ≡ block → e.element ≡ element → e ≡ root_element attributes number block element
+same_element : (attributes : Attributes) (e : RootElement) (number block element : ℕ)
+    → e ≡ root_element attributes e.number e.block e.element → e.number ≡ number → e.block ≡ block
+    → e.element ≡ element → e ≡ root_element attributes number block element
 same_element attributes e number block element is same_number same_block same_place = is ∙ cc
 
 -- the element of a number and a place is found where the columns look for it
 pub found_at : (number_of : Role → Option ℕ) (width_of : ℕ → ℕ) (diagram : Diagram) (attributes : Attributes) → AreNumbered (filter_map (number_in number_of) diagram.blocks) →
     (block : ℕ) (b : Block) (number element : ℕ) → slice_get diagram.blocks block ≡ Some b → number_in number_of b ≡ Some number → element < width_of block →
-    slice_get (root_elements number_of width_of diagram attributes) (position_or_len (λ (e : RootElement). (e.number == number) && (e.element == element)) (root_elements number_of width_of diagram attributes))
+    slice_get (root_elements number_of width_of diagram attributes)
+    (position_or_len (λ (e : RootElement). (e.number == number) && (e.element == element))
+    (root_elements number_of width_of diagram attributes))
     ≡ Some (root_element attributes number block element)
 found_at number_of width_of diagram attributes are block b number element at is inside =
     let elements = root_elements number_of width_of diagram attributes in
@@ -196,7 +210,9 @@ found_at number_of width_of diagram attributes are block b number element at is 
     let hit = find_passes test elements (there.0) (root_element attributes number block element) (there.1) (numbered_is number element) in
     let same = is_numbered number element (hit.0) (hit.2) in
     let of = is_element number_of width_of diagram attributes (hit.3.0) (hit.0) (hit.3.1) in
-    let other : position (has_number number_of number) diagram.blocks ≡ Some (hit.0.block) = first_is number_of diagram.blocks are.distinct (hit.0.block) (of.0) number (of.1) (of.2 ∙ ap (λ n. Some n) (same.0)) in
+    let other : position (has_number number_of number) diagram.blocks ≡ Some (hit.0.block) =
+    first_is number_of diagram.blocks are.distinct (hit.0.block) (of.0) number (of.1)
+    (of.2 ∙ ap (λ n. Some n) (same.0)) in
     let block_is : hit.0.block ≡ block = same_Some (hit.0.block) block (sym other ∙ first_is number_of diagram.blocks are.distinct block b number at is) in
     sym (find_at test elements) ∙ (hit.1) ∙ ap (λ e. Some e) (same_element attributes (hit.0) number block element (of.4) (same.0) block_is (same.1))
 
@@ -206,7 +222,9 @@ abbrev AreApart : List RootElement → Type 0
 AreApart [] = ⊤
 AreApart (x ∷ xs) = ((k : ℕ) (y : RootElement) → slice_get xs k ≡ Some y → x.number ≡ y.number → x.element ≡ y.element → ⊥) × AreApart xs
 
-append_apart : (xs ys : List RootElement) → AreApart xs → AreApart ys → ((i j : ℕ) (x y : RootElement) → slice_get xs i ≡ Some x → slice_get ys j ≡ Some y → x.number ≡ y.number → ⊥) → AreApart (xs ++ ys)
+append_apart : (xs ys : List RootElement) → AreApart xs → AreApart ys
+    → ((i j : ℕ) (x y : RootElement) → slice_get xs i ≡ Some x → slice_get ys j ≡ Some y → x.number ≡ y.number → ⊥)
+    → AreApart (xs ++ ys)
 append_apart [] ys left right across = right
 append_apart (x ∷ xs) ys left right across = (
   λ k y at same_number same_place. elim (from_append y xs ys k at) [
@@ -231,12 +249,15 @@ port_apart : (attributes : Attributes) (width_of : ℕ → ℕ) (number : ℕ) (
 port_apart attributes width_of number None = tt
 port_apart attributes width_of number (Some block) = part_apart attributes number block 0 (width_of block)
 
-port_number : (attributes : Attributes) (width_of : ℕ → ℕ) (number : ℕ) (o : Option ℕ) (k : ℕ) (e : RootElement) → slice_get (elements_of_port attributes width_of number o) k ≡ Some e → e.number ≡ number
+port_number : (attributes : Attributes) (width_of : ℕ → ℕ) (number : ℕ) (o : Option ℕ) (k : ℕ) (e : RootElement)
+    → slice_get (elements_of_port attributes width_of number o) k ≡ Some e → e.number ≡ number
 port_number attributes width_of number None k e at = absurd (none-some e at)
 port_number attributes width_of number (Some block) k e at =
     let of = from_map (root_element attributes number block) e (numbers_from 0 (width_of block)) k at in ap (λ (o : RootElement). o.number) (of.2)
 
-ports_apart : (attributes : Attributes) (width_of : ℕ → ℕ) (place_of : ℕ → Option ℕ) (from n : ℕ) → AreApart (flat_map (λ number. elements_of_port attributes width_of number (place_of number)) (numbers_from from n))
+ports_apart : (attributes : Attributes) (width_of : ℕ → ℕ) (place_of : ℕ → Option ℕ) (from n : ℕ)
+    → AreApart
+    (flat_map (λ number. elements_of_port attributes width_of number (place_of number)) (numbers_from from n))
 ports_apart attributes width_of place_of from zero = tt
 ports_apart attributes width_of place_of from (suc n) =
     append_apart (elements_of_port attributes width_of from (place_of from)) (flat_map (λ number. elements_of_port attributes width_of number (place_of number)) (numbers_from (suc from) n))
@@ -271,5 +292,7 @@ pub are_root_elements : (number_of : Role → Option ℕ) (width_of : ℕ → �
 are_root_elements number_of width_of diagram attributes are = record {
   elements_of = is_element number_of width_of diagram attributes;
   has_each = element_is_there number_of width_of diagram attributes are;
-  different = one_place (root_elements number_of width_of diagram attributes) (ports_apart attributes width_of (λ number. position (has_number number_of number) diagram.blocks) 1 (length (filter_map (number_in number_of) diagram.blocks)));
+  different = one_place (root_elements number_of width_of diagram attributes)
+      (ports_apart attributes width_of (λ number. position (has_number number_of number) diagram.blocks) 1
+      (length (filter_map (number_in number_of) diagram.blocks)));
 }

@@ -61,7 +61,8 @@ abbrev enabling : ℕ → ℕ → LatencyEdge
 enabling from to = record { from = from; from_port = 1; to = to; target = Enable }
 
 -- the enable edges stand behind the lines: to the Delay and the output port, in file order
-edges : latency_edges diagram ≡ line 1 1 2 1 ∷ line 5 1 3 1 ∷ line 3 1 5 1 ∷ line 4 1 5 2 ∷ line 5 1 6 1 ∷ line 6 1 7 1 ∷ line 7 1 8 1 ∷ line 8 1 9 1 ∷ line 0 1 10 1 ∷ line 0 1 11 1 ∷ enabling 2 3 ∷ enabling 2 6 ∷ []
+edges : latency_edges diagram ≡ line 1 1 2 1 ∷ line 5 1 3 1 ∷ line 3 1 5 1 ∷ line 4 1 5 2 ∷ line 5 1 6 1
+    ∷ line 6 1 7 1 ∷ line 7 1 8 1 ∷ line 8 1 9 1 ∷ line 0 1 10 1 ∷ line 0 1 11 1 ∷ enabling 2 3 ∷ enabling 2 6 ∷ []
 edges = refl
 
 -- all are instant but those into the Delays, the one from slow to fast, and the enable of a Delay
@@ -96,7 +97,9 @@ in_four_bits (suc zero) (suc (suc zero)) inside below hit = record { low = le_z_
 in_four_bits element (suc (suc (suc t))) inside below hit = absurd (omega (arith, below))
 in_four_bits (suc (suc element)) t inside below hit = absurd (omega (arith, inside))
 
-single_given : (block : ℕ) (b : Block) (number element t : ℕ) → slice_get single.blocks block ≡ Some b → element < attributes.width_at block 1 → t < 3 → Hits (attributes.period_at block) t → InRange (attributes.type_at block 1) (of_single element t)
+single_given : (block : ℕ) (b : Block) (number element t : ℕ) → slice_get single.blocks block ≡ Some b
+    → element < attributes.width_at block 1 → t < 3 → Hits (attributes.period_at block) t
+    → InRange (attributes.type_at block 1) (of_single element t)
 single_given zero b number element t at inside below hit = in_four_bits element t inside below hit
 single_given (suc block) b number element t at inside below hit = absurd (none-some b at)
 

@@ -49,7 +49,8 @@ plain = Plain (block_of Terminator 1 0 None)
 
 -- u, an enabled subsystem with an input, an output and its EnablePort, y, a subsystem with an output, and in it a Terminator of the name of y
 abbrev blocks : List NestedBlock
-blocks = nested_block 1 None root_in ∷ nested_block 2 None SubSystem ∷ nested_block 1 (Some 1) inner_in ∷ nested_block 3 (Some 1) enabled_out ∷ nested_block 4 (Some 1) (Enable false) ∷ nested_block 3 None root_out
+blocks = nested_block 1 None root_in ∷ nested_block 2 None SubSystem ∷ nested_block 1 (Some 1) inner_in
+    ∷ nested_block 3 (Some 1) enabled_out ∷ nested_block 4 (Some 1) (Enable false) ∷ nested_block 3 None root_out
     ∷ nested_block 5 None SubSystem ∷ nested_block 1 (Some 6) inner_out ∷ nested_block 3 (Some 6) plain ∷ []
 
 abbrev lines : List NestedLine
@@ -68,14 +69,57 @@ levels : AreLevels blocks level
 unfolding level
 levels = record {
   root = refl;
-  inner = each_of (λ block b. IsSubSystem b.part → level (Some block) ≡ suc (level b.parent)) blocks (λ is. absurd is, (λ is. refl, (λ is. absurd is, (λ is. absurd is, (λ is. absurd is, (λ is. absurd is, (λ is. refl, (λ is. absurd is, (λ is. absurd is, tt)))))))));
-  deepest = each_of (λ block b. IsSubSystem b.part → level (Some block) ≤ 64) blocks (λ is. absurd is, (λ is. lit≤ tt, (λ is. absurd is, (λ is. absurd is, (λ is. absurd is, (λ is. absurd is, (λ is. lit≤ tt, (λ is. absurd is, (λ is. absurd is, tt)))))))));
+  inner = each_of (λ block b. IsSubSystem b.part → level (Some block) ≡ suc (level b.parent)) blocks (
+    λ is. absurd is,
+    (
+      λ is. refl,
+      (
+        λ is. absurd is,
+        (
+          λ is. absurd is,
+          (λ is. absurd is, (λ is. absurd is, (λ is. refl, (λ is. absurd is, (λ is. absurd is, tt))))),
+        ),
+      ),
+    ),
+  );
+  deepest = each_of (λ block b. IsSubSystem b.part → level (Some block) ≤ 64) blocks (
+    λ is. absurd is,
+    (
+      λ is. lit≤ tt,
+      (
+        λ is. absurd is,
+        (
+          λ is. absurd is,
+          (λ is. absurd is, (λ is. absurd is, (λ is. lit≤ tt, (λ is. absurd is, (λ is. absurd is, tt))))),
+        ),
+      ),
+    ),
+  );
 }
 
 -- no EnablePort stands in the second subsystem
 no_enable : ¬ HasEnablePort blocks (Some 6)
 no_enable (k, block, inside, at, has) =
-    let each : All (λ (b : NestedBlock). b.parent ≡ Some 6 → IsEnable b.part → ⊥) blocks = all_of (λ b. b.parent ≡ Some 6 → IsEnable b.part → ⊥) blocks (λ same is. absurd is, (λ same is. absurd is, (λ same is. absurd is, (λ same is. absurd is, (λ same is. absurd (omega (arith, same_Some 1 6 same)), (λ same is. absurd is, (λ same is. absurd is, (λ same is. absurd is, (λ same is. absurd is, tt))))))))) in
+    let each : All (λ (b : NestedBlock). b.parent ≡ Some 6 → IsEnable b.part → ⊥) blocks =
+    all_of (λ b. b.parent ≡ Some 6 → IsEnable b.part → ⊥) blocks (
+      λ same is. absurd is,
+      (
+        λ same is. absurd is,
+        (
+          λ same is. absurd is,
+          (
+            λ same is. absurd is,
+            (
+              λ same is. absurd (omega (arith, same_Some 1 6 same)),
+              (
+                λ same is. absurd is,
+                (λ same is. absurd is, (λ same is. absurd is, (λ same is. absurd is, tt))),
+              ),
+            ),
+          ),
+        ),
+      ),
+    ) in
     let here : block.parent ≡ Some 6 → IsEnable block.part → ⊥ = subst (λ (b : NestedBlock). b.parent ≡ Some 6 → IsEnable b.part → ⊥) at (each k block inside) in
     here (has.0) (has.1)
 
@@ -87,11 +131,315 @@ sound = record {
   size = lit≤ tt;
   parents = each_of (λ block b. HasParent blocks block b.parent) blocks (tt, (tt, ((lit< tt, tt), ((lit< tt, tt), ((lit< tt, tt), (tt, (tt, ((lit< tt, tt), ((lit< tt, tt), tt)))))))));
   levels = (level, levels);
-  names = pairs_of HaveNames blocks ((λ same. differ 1 2 (λ n. absurd (omega (arith, n))), (λ same. absurd (none-some 1 same), (λ same. absurd (none-some 1 same), (λ same. absurd (none-some 1 same), (λ same. differ 1 3 (λ n. absurd (omega (arith, n))), (λ same. differ 1 5 (λ n. absurd (omega (arith, n))), (λ same. absurd (none-some 6 same), (λ same. absurd (none-some 6 same), tt)))))))), ((λ same. absurd (none-some 1 same), (λ same. absurd (none-some 1 same), (λ same. absurd (none-some 1 same), (λ same. differ 2 3 (λ n. absurd (omega (arith, n))), (λ same. differ 2 5 (λ n. absurd (omega (arith, n))), (λ same. absurd (none-some 6 same), (λ same. absurd (none-some 6 same), tt))))))), ((λ same. differ 1 3 (λ n. absurd (omega (arith, n))), (λ same. differ 1 4 (λ n. absurd (omega (arith, n))), (λ same. absurd (none-some 1 (sym same)), (λ same. absurd (none-some 1 (sym same)), (λ same. absurd (omega (arith, same_Some 1 6 same)), (λ same. absurd (omega (arith, same_Some 1 6 same)), tt)))))), ((λ same. differ 3 4 (λ n. absurd (omega (arith, n))), (λ same. absurd (none-some 1 (sym same)), (λ same. absurd (none-some 1 (sym same)), (λ same. absurd (omega (arith, same_Some 1 6 same)), (λ same. absurd (omega (arith, same_Some 1 6 same)), tt))))), ((λ same. absurd (none-some 1 (sym same)), (λ same. absurd (none-some 1 (sym same)), (λ same. absurd (omega (arith, same_Some 1 6 same)), (λ same. absurd (omega (arith, same_Some 1 6 same)), tt)))), ((λ same. differ 3 5 (λ n. absurd (omega (arith, n))), (λ same. absurd (none-some 6 same), (λ same. absurd (none-some 6 same), tt))), ((λ same. absurd (none-some 6 same), (λ same. absurd (none-some 6 same), tt)), ((λ same. differ 1 3 (λ n. absurd (omega (arith, n))), tt), (tt, tt)))))))));
-  lines = all_of (JoinsWithin blocks) lines (record { system = refl; from_port = (lit≤ tt, lit≤ tt); target = (lit≤ tt, lit≤ tt) }, (record { system = refl; from_port = (lit≤ tt, lit≤ tt); target = tt }, (record { system = refl; from_port = (lit≤ tt, lit≤ tt); target = (lit≤ tt, lit≤ tt) }, (record { system = refl; from_port = (lit≤ tt, lit≤ tt); target = (lit≤ tt, lit≤ tt) }, tt))));
-  blocks = all_of (λ block. HasReadable block.part) blocks (record { ports = (refl, refl); parameters = ((lit≤ tt, lit≤ tt), (lit≤ tt, lit≤ tt)); types = tt; result = tt; rounding = (refl, refl); period = tt }, (tt, (record { ports = (refl, refl); parameters = (lit≤ tt, lit≤ tt); types = tt; result = tt; rounding = (refl, refl); period = tt }, (record { ports = (refl, refl); parameters = (lit≤ tt, lit≤ tt); types = tt; result = tt; rounding = (refl, refl); period = tt }, (tt, (record { ports = (refl, refl); parameters = (lit≤ tt, lit≤ tt); types = tt; result = tt; rounding = (refl, refl); period = tt }, (tt, (record { ports = (refl, refl); parameters = (lit≤ tt, lit≤ tt); types = tt; result = tt; rounding = (refl, refl); period = tt }, (record { ports = (refl, refl); parameters = tt; types = tt; result = refl; rounding = (refl, refl); period = refl }, tt)))))))));
+  names = pairs_of HaveNames blocks (
+    (
+      λ same. differ 1 2 (λ n. absurd (omega (arith, n))),
+      (
+        λ same. absurd (none-some 1 same),
+        (
+          λ same. absurd (none-some 1 same),
+          (
+            λ same. absurd (none-some 1 same),
+            (
+              λ same. differ 1 3 (λ n. absurd (omega (arith, n))),
+              (
+                λ same. differ 1 5 (λ n. absurd (omega (arith, n))),
+                (λ same. absurd (none-some 6 same), (λ same. absurd (none-some 6 same), tt)),
+              ),
+            ),
+          ),
+        ),
+      ),
+    ),
+    (
+      (
+        λ same. absurd (none-some 1 same),
+        (
+          λ same. absurd (none-some 1 same),
+          (
+            λ same. absurd (none-some 1 same),
+            (
+              λ same. differ 2 3 (λ n. absurd (omega (arith, n))),
+              (
+                λ same. differ 2 5 (λ n. absurd (omega (arith, n))),
+                (
+                  λ same. absurd (none-some 6 same),
+                  (λ same. absurd (none-some 6 same), tt),
+                ),
+              ),
+            ),
+          ),
+        ),
+      ),
+      (
+        (
+          λ same. differ 1 3 (λ n. absurd (omega (arith, n))),
+          (
+            λ same. differ 1 4 (λ n. absurd (omega (arith, n))),
+            (
+              λ same. absurd (none-some 1 (sym same)),
+              (
+                λ same. absurd (none-some 1 (sym same)),
+                (
+                  λ same. absurd
+                      (omega (arith, same_Some 1 6 same)),
+                  (
+                    λ same. absurd
+                        (omega (
+                          arith,
+                          same_Some 1 6 same,
+                        )),
+                    tt,
+                  ),
+                ),
+              ),
+            ),
+          ),
+        ),
+        (
+          (
+            λ same. differ 3 4
+                (λ n. absurd
+                (omega (
+                  arith,
+                  n,
+                ))),
+            (
+              λ same.
+                  absurd
+                  (none-some
+                  1 (sym
+                  same)),
+              (
+                λ same.
+                    absurd
+                    (none-some
+                    1 (sym
+                    same)),
+                (
+                  λ same.
+                      absurd
+                      (omega (
+                        arith,
+                        same_Some
+                            1 6
+                            same,
+                      )),
+                  (
+                    λ same.
+                        absurd
+                        (omega (
+                          arith,
+                          same_Some
+                              1 6
+                              same,
+                        )),
+                    tt,
+                  ),
+                ),
+              ),
+            ),
+          ),
+          (
+            (
+              λ same.
+                  absurd
+                  (none-some
+                  1 (sym
+                  same)),
+              (
+                λ same.
+                    absurd
+                    (none-some
+                    1 (sym
+                    same)),
+                (
+                  λ same.
+                      absurd
+                      (omega (
+                        arith,
+                        same_Some
+                            1 6
+                            same,
+                      )),
+                  (
+                    λ same.
+                        absurd
+                        (omega (
+                          arith,
+                          same_Some
+                              1 6
+                              same,
+                        )),
+                    tt,
+                  ),
+                ),
+              ),
+            ),
+            (
+              (
+                λ same.
+                    differ
+                    3 5
+                    (λ n.
+                    absurd
+                    (omega (
+                      arith,
+                      n,
+                    ))),
+                (
+                  λ same.
+                      absurd
+                      (none-some
+                      6 same),
+                  (
+                    λ same.
+                        absurd
+                        (none-some
+                        6 same),
+                    tt,
+                  ),
+                ),
+              ),
+              (
+                (
+                  λ same.
+                      absurd
+                      (none-some
+                      6 same),
+                  (
+                    λ same.
+                        absurd
+                        (none-some
+                        6 same),
+                    tt,
+                  ),
+                ),
+                (
+                  (
+                    λ same.
+                        differ
+                        1 3
+                        (λ n.
+                        absurd
+                        (omega (
+                          arith,
+                          n,
+                        ))),
+                    tt,
+                  ),
+                  (
+                    tt,
+                    tt,
+                  ),
+                ),
+              ),
+            ),
+          ),
+        ),
+      ),
+    ),
+  );
+  lines = all_of (JoinsWithin blocks) lines (
+    record { system = refl; from_port = (lit≤ tt, lit≤ tt); target = (lit≤ tt, lit≤ tt) },
+    (
+      record { system = refl; from_port = (lit≤ tt, lit≤ tt); target = tt },
+      (
+        record { system = refl; from_port = (lit≤ tt, lit≤ tt); target = (lit≤ tt, lit≤ tt) },
+        (record { system = refl; from_port = (lit≤ tt, lit≤ tt); target = (lit≤ tt, lit≤ tt) }, tt),
+      ),
+    ),
+  );
+  blocks = all_of (λ block. HasReadable block.part) blocks (
+    record {
+      ports = (refl, refl);
+      parameters = ((lit≤ tt, lit≤ tt), (lit≤ tt, lit≤ tt));
+      types = tt;
+      result =
+          tt;
+      rounding = (refl, refl);
+      period = tt;
+    },
+    (
+      tt,
+      (
+        record {
+          ports = (refl, refl);
+          parameters = (lit≤ tt, lit≤ tt);
+          types = tt;
+          result =
+              tt;
+          rounding = (refl, refl);
+          period = tt;
+        },
+        (
+          record {
+            ports = (refl, refl);
+            parameters = (lit≤ tt, lit≤ tt);
+            types = tt;
+            result =
+                tt;
+            rounding = (refl, refl);
+            period = tt;
+          },
+          (
+            tt,
+            (
+              record {
+                ports = (refl, refl);
+                parameters = (lit≤ tt, lit≤ tt);
+                types =
+                    tt;
+                result = tt;
+                rounding = (refl, refl);
+                period = tt;
+              },
+              (
+                tt,
+                (
+                  record {
+                    ports = (refl, refl);
+                    parameters = (lit≤ tt, lit≤ tt);
+                    types =
+                        tt;
+                    result = tt;
+                    rounding = (refl, refl);
+                    period = tt;
+                  },
+                  (
+                    record {
+                      ports = (refl, refl);
+                      parameters = tt;
+                      types = tt;
+                      result =
+                          refl;
+                      rounding = (refl, refl);
+                      period = refl;
+                    },
+                    tt,
+                  ),
+                ),
+              ),
+            ),
+          ),
+        ),
+      ),
+    ),
+  );
   ins = all_of (λ block. HasInRole block.parent block.part) blocks (refl, (tt, (tt, (tt, (tt, (tt, (tt, (tt, (tt, tt)))))))));
-  outs = all_of (λ block. HasOutRole blocks block.parent block.part) blocks (tt, (tt, (tt, ((4, nested_block 4 (Some 1) (Enable false), lit< tt, refl, (refl, tt)), (tt, (refl, (tt, ((refl, no_enable), (tt, tt)))))))));
+  outs = all_of (λ block. HasOutRole blocks block.parent block.part) blocks (
+    tt,
+    (
+      tt,
+      (
+        tt,
+        (
+          (4, nested_block 4 (Some 1) (Enable false), lit< tt, refl, (refl, tt)),
+          (tt, (refl, (tt, ((refl, no_enable), (tt, tt))))),
+        ),
+      ),
+    ),
+  );
   plains = all_of (λ block. HasPlainRole block.part) blocks (tt, (tt, (tt, (tt, (tt, (tt, (tt, (tt, (refl, tt)))))))));
 }
 
@@ -125,7 +473,10 @@ between_systems is = absurd (none-some 1 (is.lines 0 (line_of 0 1 2 (Port 1)) (l
 no_source : (¬ IsSound (of_lines (line_of 9 1 2 (Port 1) ∷ []))) × (¬ IsSound (of_lines (line_of 0 1 9 (Port 1) ∷ [])))
 no_source = (λ is. absurd (is.lines 0 (line_of 9 1 2 (Port 1)) (lit< tt)).system, λ is. absurd (is.lines 0 (line_of 0 1 9 (Port 1)) (lit< tt)).system)
 
-no_port : (¬ IsSound (of_lines (line_of 0 0 1 (Port 1) ∷ []))) × (¬ IsSound (of_lines (line_of 0 20001 1 (Port 1) ∷ []))) × (¬ IsSound (of_lines (line_of 0 1 1 (Port 0) ∷ []))) × (¬ IsSound (of_lines (line_of 0 1 1 (Port 20001) ∷ [])))
+no_port : (¬ IsSound (of_lines (line_of 0 0 1 (Port 1) ∷ [])))
+    × (¬ IsSound (of_lines (line_of 0 20001 1 (Port 1) ∷ [])))
+    × (¬ IsSound (of_lines (line_of 0 1 1 (Port 0) ∷ [])))
+    × (¬ IsSound (of_lines (line_of 0 1 1 (Port 20001) ∷ [])))
 no_port = (
   λ is. absurd (omega (arith, (is.lines 0 (line_of 0 0 1 (Port 1)) (lit< tt)).from_port.0)),
   λ is. absurd (omega (arith, (is.lines 0 (line_of 0 20001 1 (Port 1)) (lit< tt)).from_port.1)),

@@ -14,7 +14,8 @@ first_values = decimal_of 7 (lit< tt) ∷ decimal_of 8 (lit< tt) ∷ []
 -- u, the control and its test, an output port that is held and one that is reset, and a Delay with held states and one with reset states, all at period 2
 abbrev diagram : Diagram
 diagram = record {
-  blocks = block_of (Inport 1 2) 0 1 None ∷ block_of (Inport 2 0) 0 1 None ∷ block_of EnableTest 1 1 None ∷ block_of (EnOut false first_values) 1 1 (Some 2) ∷ block_of (EnOut true first_values) 1 1 (Some 2)
+  blocks = block_of (Inport 1 2) 0 1 None ∷ block_of (Inport 2 0) 0 1 None ∷ block_of EnableTest 1 1 None
+      ∷ block_of (EnOut false first_values) 1 1 (Some 2) ∷ block_of (EnOut true first_values) 1 1 (Some 2)
       ∷ block_of (Delay 1 first_values false) 1 1 (Some 2) ∷ block_of (Delay 1 first_values true) 1 1 (Some 2) ∷ [];
   edges = edge_of 1 1 2 1 ∷ edge_of 0 1 3 1 ∷ edge_of 0 1 4 1 ∷ edge_of 0 1 5 1 ∷ edge_of 0 1 6 1 ∷ [];
 }

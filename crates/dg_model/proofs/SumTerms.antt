@@ -13,7 +13,8 @@ pub found-ok : {E : Type 0} (P : FxType → Type 0) (result : Result FxType E) �
 found-ok P (Ok type) none some = refl
 found-ok P (Err e) none some = absurd (none some.0 some.1)
 
-pub terms-more : (signs : List Bool) (types : List FxType) (terms : Terms) (i : ℕ) (x : Bool × FxType) → i < length terms → i < length signs → i < length types → x ≡ (get_or signs i false, type_of types i)
+pub terms-more : (signs : List Bool) (types : List FxType) (terms : Terms) (i : ℕ) (x : Bool × FxType)
+    → i < length terms → i < length signs → i < length types → x ≡ (get_or signs i false, type_of types i)
     → take i terms ≡ take i (zip signs types) → take (suc i) (set terms i x) ≡ take (suc i) (zip signs types)
 terms-more signs types [] i x room h k is are = absurd (omega arith)
 terms-more [] types (u ∷ terms) i x room h k is are = absurd (omega arith)
@@ -25,7 +26,8 @@ terms-more (s ∷ signs) (t ∷ types) (u ∷ terms) (suc i) x room h k is are =
     let more = terms-more signs types terms i x (omega arith) (omega arith) (omega arith) is rest in
     ap (λ (y : Bool × FxType). y ∷ take (suc i) (set terms i x)) first ∙ ap (λ (ys : Terms). (s, t) ∷ ys) more
 
-pub terms-whole : (signs : List Bool) (types : List FxType) (terms : Terms) (i n : ℕ) → length signs ≡ length types → n ≡ i → length types ≤ i → take i terms ≡ take i (zip signs types) → take n terms ≡ zip signs types
+pub terms-whole : (signs : List Bool) (types : List FxType) (terms : Terms) (i n : ℕ) → length signs ≡ length types
+    → n ≡ i → length types ≤ i → take i terms ≡ take i (zip signs types) → take n terms ≡ zip signs types
 terms-whole signs types terms i n same e past are =
     ap (λ (k : ℕ). take k terms) e ∙ are ∙ take_all i (zip signs types) (omega (arith, length-zip signs types, same))
 

@@ -28,8 +28,16 @@ low less = record {
 }
 
 holds : (less : Bool) → HoldsSums (bytes less) (Num true 9 (pos 0))
-holds false total sum = record { low = omega (arith, ints, sum.in_range, sum.is_rest.in_range, sum.is_rest.is_rest); high = omega (arith, ints, sum.in_range, sum.is_rest.in_range, sum.is_rest.is_rest) }
-holds true total sum = record { low = omega (arith, ints, sum.in_range, sum.is_rest.in_range, sum.is_rest.is_rest); high = omega (arith, ints, sum.in_range, sum.is_rest.in_range, sum.is_rest.is_rest) }
+holds false total sum = record {
+  low =
+      omega (arith, ints, sum.in_range, sum.is_rest.in_range, sum.is_rest.is_rest);
+  high =
+      omega (arith, ints, sum.in_range, sum.is_rest.in_range, sum.is_rest.is_rest);
+}
+holds true total sum = record {
+  low = omega (arith, ints, sum.in_range, sum.is_rest.in_range, sum.is_rest.is_rest);
+  high = omega (arith, ints, sum.in_range, sum.is_rest.in_range, sum.is_rest.is_rest);
+}
 
 wide : (width : ℕ) → neg_ℤ (pos (2 ^ (width - 1))) ≤ℤ negsuc 254 → 9 ≤ width
 wide zero h = absurd h.le

@@ -141,7 +141,13 @@ differing_inputs type (suc (suc other)) b below is = absurd (omega (arith, below
 -- the first block whose types differ is told
 differs_at : (type : FxType) (place : ℕ) (block : Block) → IsFirstBroken (differing type) (HasAgreeing (differing type) (types_of (differing type))) place block →
     BreaksType (differing type) (fault_of Rule.Type (path_of (differing type) place) (Word (codes "differs")))
-differs_at type place block first = inr (inr (record { narrow = differing_narrow type; known = differing_known type; differ = record { place = place; block = block; first = first; fault_is = refl } }))
+differs_at type place block first = inr
+    (inr (record {
+      narrow = differing_narrow type;
+      known = differing_known type;
+      differ =
+          record { place = place; block = block; first = first; fault_is = refl };
+    }))
 
 outport_breaks : BreaksType (differing int8) (fault_of Rule.Type (codes "m/y") (Word (codes "differs")))
 outport_breaks = differs_at int8 2 (named (codes "m/y") (Outport 1) (Fixed int8) 1 0)

@@ -37,7 +37,9 @@ laid_attributes = record { width_at = λ block port. get_or (0 ∷ get_or laid_w
 -- by block, port and element
 abbrev laid_table : Table
 laid_table block port element t =
-    get_or (get_or (get_or (((pos 11 ∷ pos 12 ∷ []) ∷ []) ∷ ((pos 13 ∷ []) ∷ []) ∷ ((pos 11 ∷ pos 12 ∷ pos 13 ∷ []) ∷ []) ∷ ((pos 11 ∷ []) ∷ (pos 12 ∷ pos 13 ∷ []) ∷ []) ∷ ((pos 12 ∷ pos 13 ∷ []) ∷ []) ∷ []) block []) (port - 1) []) element (pos 0)
+    get_or (get_or (get_or (((pos 11 ∷ pos 12 ∷ []) ∷ []) ∷ ((pos 13 ∷ []) ∷ [])
+    ∷ ((pos 11 ∷ pos 12 ∷ pos 13 ∷ []) ∷ []) ∷ ((pos 11 ∷ []) ∷ (pos 12 ∷ pos 13 ∷ []) ∷ [])
+    ∷ ((pos 12 ∷ pos 13 ∷ []) ∷ []) ∷ []) block []) (port - 1) []) element (pos 0)
 
 abbrev laid_stimulus : Stimulus
 laid_stimulus number element t = laid_table (number - 1) 1 element t
@@ -49,7 +51,11 @@ inports : IsLaid 0 1 0 × IsLaid 0 1 1 × IsLaid 1 1 0
 inports = (refl, refl, refl)
 
 mux : IsLaid 2 1 0 × IsLaid 2 1 1 × IsLaid 2 1 2
-mux = ((0, 0, record { signal_is = lit< tt; within = lit< tt; place = refl }, refl), (0, 1, record { signal_is = lit< tt; within = lit< tt; place = refl }, refl), (1, 0, record { signal_is = lit< tt; within = lit< tt; place = refl }, refl))
+mux = (
+  (0, 0, record { signal_is = lit< tt; within = lit< tt; place = refl }, refl),
+  (0, 1, record { signal_is = lit< tt; within = lit< tt; place = refl }, refl),
+  (1, 0, record { signal_is = lit< tt; within = lit< tt; place = refl }, refl),
+)
 
 demux : IsLaid 3 1 0 × IsLaid 3 2 0 × IsLaid 3 2 1
 demux = (refl, refl, refl)
@@ -61,7 +67,10 @@ places block b known port element shown at =
     let is : b ≡ known = same_Some b known (sym shown.block_is ∙ at) in
     subst (λ (o : Block). (1 ≤ port) × (port ≤ shown_ports o.kind o.outputs) × (element < shown_width laid laid_attributes o.kind block port)) is (shown.port_from, shown.port_to, shown.element_below)
 
-at_hits : (block : ℕ) (b : Block) (port element t : ℕ) → IsShown laid laid_attributes block b port element → t < 1 → Hits (laid_attributes.period_at block) t → Equation laid laid_attributes laid_stimulus laid_table block port element t (laid_table block port element t)
+at_hits : (block : ℕ) (b : Block) (port element t : ℕ) → IsShown laid laid_attributes block b port element → t < 1
+    → Hits (laid_attributes.period_at block) t
+    → Equation laid laid_attributes laid_stimulus laid_table block port element t
+    (laid_table block port element t)
 at_hits block b zero element t shown below hit = absurd (omega (arith, shown.port_from))
 at_hits zero b (suc zero) element t shown below hit = refl
 at_hits zero b (suc (suc port)) element t shown below hit = absurd (omega (arith, (places 0 b _ (suc (suc port)) element shown refl).1))
@@ -110,7 +119,9 @@ control_of_two = (refl, refl)
 
 abbrev added : Diagram
 added = record {
-  blocks = block_of (Constant (decimal_of 4 (lit< tt) ∷ decimal_of 5 (lit< tt) ∷ [])) 0 1 None ∷ block_of (Constant (decimal_of 1 (lit< tt) ∷ [])) 0 1 None ∷ block_of (Sum (false ∷ false ∷ []) Internal) 2 1 None ∷ block_of Ground 0 1 None ∷ [];
+  blocks = block_of (Constant (decimal_of 4 (lit< tt) ∷ decimal_of 5 (lit< tt) ∷ [])) 0 1 None
+      ∷ block_of (Constant (decimal_of 1 (lit< tt) ∷ [])) 0 1 None
+      ∷ block_of (Sum (false ∷ false ∷ []) Internal) 2 1 None ∷ block_of Ground 0 1 None ∷ [];
   edges = edge_of 0 1 2 1 ∷ edge_of 1 1 2 2 ∷ [];
 }
 

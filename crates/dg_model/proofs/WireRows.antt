@@ -87,13 +87,37 @@ driven (suc (suc (suc (suc (suc (suc block)))))) port b at low high = absurd (no
 wired : IsWired diagram
 wired = record {
   size = lit≤ tt;
-  edges = all_of (Joins blocks) edges (record { source = (lit≤ tt, lit≤ tt); target = (lit≤ tt, lit≤ tt) }, (record { source = (lit≤ tt, lit≤ tt); target = (lit≤ tt, lit≤ tt) }, (record { source = (lit≤ tt, lit≤ tt); target = (lit≤ tt, lit≤ tt) }, (record { source = (lit≤ tt, lit≤ tt); target = (lit≤ tt, lit≤ tt) }, tt))));
+  edges = all_of (Joins blocks) edges (
+    record { source = (lit≤ tt, lit≤ tt); target = (lit≤ tt, lit≤ tt) },
+    (
+      record { source = (lit≤ tt, lit≤ tt); target = (lit≤ tt, lit≤ tt) },
+      (
+        record { source = (lit≤ tt, lit≤ tt); target = (lit≤ tt, lit≤ tt) },
+        (record { source = (lit≤ tt, lit≤ tt); target = (lit≤ tt, lit≤ tt) }, tt),
+      ),
+    ),
+  );
   driven = driven;
   ordered = pairs_of StandsBefore edges ((inl (lit< tt), (inl (lit< tt), (inl (lit< tt), tt))), ((inl (lit< tt), (inl (lit< tt), tt)), ((inl (lit< tt), tt), (tt, tt))));
-  blocks = all_of IsReadable blocks (inport_readable 1 (lit≤ tt) (lit≤ tt), (inport_readable 2 (lit≤ tt) (lit≤ tt), (test_readable, (gain_readable, (en_out_readable (Some 2), (outport_readable 1 (lit≤ tt) (lit≤ tt), tt))))));
+  blocks = all_of IsReadable blocks (
+    inport_readable 1 (lit≤ tt) (lit≤ tt),
+    (
+      inport_readable 2 (lit≤ tt) (lit≤ tt),
+      (
+        test_readable,
+        (gain_readable, (en_out_readable (Some 2), (outport_readable 1 (lit≤ tt) (lit≤ tt), tt))),
+      ),
+    ),
+  );
   controls = all_of (λ block. NamesControl blocks block.enable) blocks (tt, (tt, (tt, (refl, (refl, (tt, tt))))));
   enables = all_of (λ block. MayStand (row_of block.kind).place.stands block.enable) blocks (tt, (tt, (refl, (tt, (refl, (tt, tt))))));
-  inports = record { within = all_of (λ (number : ℕ). (1 ≤ number) × (number ≤ 2)) (1 ∷ 2 ∷ []) ((lit≤ tt, lit≤ tt), ((lit≤ tt, lit≤ tt), tt)); distinct = pairs_of (λ (number other : ℕ). number ≢ other) (1 ∷ 2 ∷ []) ((λ e. absurd (omega (arith, e)), tt), (tt, tt)) };
+  inports = record {
+    within = all_of (λ (number : ℕ). (1 ≤ number) × (number ≤ 2)) (1 ∷ 2 ∷ [])
+        ((lit≤ tt, lit≤ tt), ((lit≤ tt, lit≤ tt), tt));
+    distinct =
+        pairs_of (λ (number other : ℕ). number ≢ other) (1 ∷ 2 ∷ [])
+        ((λ e. absurd (omega (arith, e)), tt), (tt, tt));
+  };
   outports = record { within = all_of (λ (number : ℕ). (1 ≤ number) × (number ≤ 1)) (1 ∷ []) ((lit≤ tt, lit≤ tt), tt); distinct = pairs_of (λ (number other : ℕ). number ≢ other) (1 ∷ []) (tt, tt) };
 }
 

@@ -56,5 +56,7 @@ pub breaks_periods : (diagram : Diagram) (periods : List Period) (place : ℕ) (
 breaks_periods diagram periods place block source fault at found before is =
     breaks_at diagram (KeepsPeriods diagram periods) (shown_periods diagram periods) place block fault at (λ keeps. absurd (cc (sym keeps ∙ found))) before (is ∙ shown)
   where
-    shown : fault_of Rule.Rate block.path (ShownPeriods (shown_period (period_at periods place)) (shown_period (period_at periods source))) ≡ fault_of Rule.Rate block.path (shown_periods diagram periods place block)
+    shown : fault_of Rule.Rate block.path
+        (ShownPeriods (shown_period (period_at periods place)) (shown_period (period_at periods source)))
+        ≡ fault_of Rule.Rate block.path (shown_periods diagram periods place block)
     shown = rw found refl

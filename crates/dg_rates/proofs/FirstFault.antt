@@ -25,7 +25,8 @@ keep_more diagram Keeps place block at keeps before other b below is =
 pub keep_all : (diagram : Diagram) (Keeps : ℕ → Block → Type 0) (place : ℕ) → length diagram.blocks ≤ place → KeepBefore diagram Keeps place → AllKeep diagram Keeps
 keep_all diagram Keeps place all before other b is = before other b (omega (arith, all, slice_get_within diagram.blocks other b is)) is
 
-pub breaks_at : (diagram : Diagram) (Keeps : ℕ → Block → Type 0) (shown : ℕ → Block → Shown) (place : ℕ) (block : Block) (fault : RuleFault) → slice_get diagram.blocks place ≡ Some block → ¬ Keeps place block
+pub breaks_at : (diagram : Diagram) (Keeps : ℕ → Block → Type 0) (shown : ℕ → Block → Shown) (place : ℕ)
+    (block : Block) (fault : RuleFault) → slice_get diagram.blocks place ≡ Some block → ¬ Keeps place block
     → KeepBefore diagram Keeps place → fault ≡ fault_of Rule.Rate block.path (shown place block) → BreaksAt diagram Rule.Rate Keeps shown fault
 breaks_at diagram Keeps shown place block fault at broken before is = record {
   place = place;

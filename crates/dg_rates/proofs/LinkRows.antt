@@ -1,5 +1,6 @@
 -- Rows of sources as the controls come to them.
-use Rattle.std.proofs.Common.{◌≡◌, ℕ, ◌+◌, ◌<◌, ◌≤◌, ⊎_elim, Bool, true, false, List, [], ◌∷◌, ◌++◌, length, map, filter, replicate, take, get_or, cond, eqb, All, Some, None, refl, sym, ap, subst, ◌∙◌, arith}
+use Rattle.std.proofs.Common.{◌≡◌, ℕ, ◌+◌, ◌<◌, ◌≤◌, ⊎_elim, Bool, true, false, List, [], ◌∷◌, ◌++◌, length, map, filter, replicate, take, get_or, cond, eqb, All, Some, None, refl, sym, ap, subst}
+use Rattle.std.proofs.Common.{◌∙◌, arith}
 use Rattle.std.specs.Prelude.{◌==◌, nat_lt, slice_get, MatchOption}
 use Rattle.std.specs.Option.{option_to_list}
 use Rattle.std.proofs.lemmas.Bool.{cases_eq, cases_lt, cond-true, cond-false, eq-eqb, ne_eqb, lt-ltb, le-ltb}
@@ -41,7 +42,9 @@ pub controlled_more : (diagram : Diagram) (done : ℕ) (rows : List (List ℕ)) 
 controlled_more diagram done rows block control here enable inside a = record {
   row = λ place b at.
       ⊎_elim
-      (λ same. noted_here rows done control place inside same ∙ ap (λ (row : List ℕ). row ++ control ∷ []) (before place b same at) ∙ ap (λ (c : List ℕ). drivers_of diagram place ++ c) (sym (now place b same at)))
+      (λ same. noted_here rows done control place inside same
+      ∙ ap (λ (row : List ℕ). row ++ control ∷ []) (before place b same at)
+      ∙ ap (λ (c : List ℕ). drivers_of diagram place ++ c) (sym (now place b same at)))
       (λ other. noted_other rows done control place other ∙ a.row place b at ∙ ap (λ (c : List ℕ). drivers_of diagram place ++ c) (same_before place done (control_of b) other))
       (cases_eq place done);
 }
@@ -64,7 +67,9 @@ controlled_same diagram done rows block here enable a = record {
   row = λ place b at.
       a.row place b at ∙ ap (λ (c : List ℕ). drivers_of diagram place ++ c)
       (⊎_elim
-      (λ same. ap (λ (c : List ℕ). cond (nat_lt place done) c []) (none place b same at) ∙ both (nat_lt place done) (nat_lt place (done + 1)) ∙ ap (λ (c : List ℕ). cond (nat_lt place (done + 1)) c []) (sym (none place b same at)))
+      (λ same. ap (λ (c : List ℕ). cond (nat_lt place done) c []) (none place b same at)
+      ∙ both (nat_lt place done) (nat_lt place (done + 1))
+      ∙ ap (λ (c : List ℕ). cond (nat_lt place (done + 1)) c []) (sym (none place b same at)))
       (λ other. same_before place done (control_of b) other)
       (cases_eq place done));
 }
@@ -113,7 +118,8 @@ tied_first count sources readers no_sources no_readers = record {
 pub drivers_first : (count : ℕ) (rows : List (List ℕ)) → rows ≡ replicate count [] → AreDrivers count [] rows
 drivers_first count rows empty = record { row = λ block below. ap (λ (all : List (List ℕ)). row_at all block) empty ∙ get_or-replicate count block [] [] below }
 
-one_driver : (count : ℕ) (done : List Edge) (edge : Edge) (rows : List (List ℕ)) → edge.to < length rows → AreDrivers count done rows → AreDrivers count (done ++ edge ∷ []) (noted rows edge.to edge.from)
+one_driver : (count : ℕ) (done : List Edge) (edge : Edge) (rows : List (List ℕ)) → edge.to < length rows
+    → AreDrivers count done rows → AreDrivers count (done ++ edge ∷ []) (noted rows edge.to edge.from)
 one_driver count done edge rows inside before = record {
   row = λ block below.
       ⊎_elim
@@ -125,12 +131,15 @@ one_driver count done edge rows inside before = record {
 }
   where
     added : (block : ℕ) (b : Bool) → eqb edge.to block ≡ b
-        → map (λ (e : Edge). e.from) (filter (λ e. e.to == block) (done ++ edge ∷ [])) ≡ map (λ (e : Edge). e.from) (filter (λ e. e.to == block) done) ++ map (λ (e : Edge). e.from) (cond b (edge ∷ []) [])
+        → map (λ (e : Edge). e.from) (filter (λ e. e.to == block) (done ++ edge ∷ []))
+        ≡ map (λ (e : Edge). e.from) (filter (λ e. e.to == block) done)
+        ++ map (λ (e : Edge). e.from) (cond b (edge ∷ []) [])
     added block b is =
         ap (map (λ (e : Edge). e.from)) (filter-append (λ (e : Edge). e.to == block) done (edge ∷ []) ∙ ap (λ (c : Bool). filter (λ e. e.to == block) done ++ cond c (edge ∷ []) []) is)
         ∙ map-append (λ (e : Edge). e.from) (filter (λ e. e.to == block) done) (cond b (edge ∷ []) [])
 
-pub drivers_more : (count : ℕ) (edges : List Edge) (place : ℕ) (d : Edge) (rows : List (List ℕ)) → place < length edges → (get_or edges place d).to < length rows → AreDrivers count (take place edges) rows
+pub drivers_more : (count : ℕ) (edges : List Edge) (place : ℕ) (d : Edge) (rows : List (List ℕ))
+    → place < length edges → (get_or edges place d).to < length rows → AreDrivers count (take place edges) rows
     → AreDrivers count (take (place + 1) edges) (noted rows (get_or edges place d).to (get_or edges place d).from)
 drivers_more count edges place d rows below inside before = rw (take_more edges place d below) (one_driver count (take place edges) (get_or edges place d) rows inside before)
 
@@ -150,8 +159,11 @@ from_inside diagram wired k d below = inside_of diagram.blocks _ _ (wired.edges 
 pub to_inside : (diagram : Diagram) → IsWired diagram → All (λ edge. edge.to < length diagram.blocks) diagram.edges
 to_inside diagram wired k d below = inside_of diagram.blocks _ _ (wired.edges k d below).target
 
-pub control_inside : (diagram : Diagram) (place : ℕ) (block : Block) (control : ℕ) → IsWired diagram → slice_get diagram.blocks place ≡ Some block → block.enable ≡ Some control → control < length diagram.blocks
+pub control_inside : (diagram : Diagram) (place : ℕ) (block : Block) (control : ℕ) → IsWired diagram
+    → slice_get diagram.blocks place ≡ Some block → block.enable ≡ Some control → control < length diagram.blocks
 control_inside diagram place block control wired at enable =
     let last = get_or_from_slice_get diagram.blocks place block block at in
-    let names : NamesControl diagram.blocks block.enable = subst (λ (b : Block). NamesControl diagram.blocks b.enable) last (wired.controls place block (slice_get_within diagram.blocks place block at)) in
+    let names : NamesControl diagram.blocks block.enable =
+    subst (λ (b : Block). NamesControl diagram.blocks b.enable) last
+    (wired.controls place block (slice_get_within diagram.blocks place block at)) in
     inside_of diagram.blocks (λ b. (row_of b.kind).place.role ≡ Role.Control) control (subst (λ o. NamesControl diagram.blocks o) enable names)

@@ -39,7 +39,11 @@ less_aligned first second aligned a = (
 pub times_aligned : (first second : ℕ) (aligned : Aligned) (a : IsAligned first second aligned) (times : ℕ) → IsTimes a.left a.right times ↔ IsTimes first second times
 times_aligned first second aligned a times = (
   λ t. record { few = t.few; whole = rw (a.first_is, a.second_is) (ap (λ n. n * a.unit) t.whole ∙ mul_assoc times a.right a.unit) },
-  λ t. record { few = t.few; whole = eq_of_mul-eq-mul_right a.unit a.some a.left (times * a.right) (sym a.first_is ∙ t.whole ∙ ap (λ n. times * n) a.second_is ∙ sym (mul_assoc times a.right a.unit)) },
+  λ t. record {
+    few = t.few;
+    whole = eq_of_mul-eq-mul_right a.unit a.some a.left (times * a.right)
+        (sym a.first_is ∙ t.whole ∙ ap (λ n. times * n) a.second_is ∙ sym (mul_assoc times a.right a.unit));
+  },
 )
 
 -- what leaves a remainder is no such multiple

@@ -85,4 +85,6 @@ tie_more count selves sources readers reader source reader_there source_there t 
     still s block is = still_in readers source reader s block source_inside is
 
     at_reader : (block k s : ℕ) → block ≡ reader → slice_get (row_at sources block ++ source ∷ []) k ≡ Some s → is_in block (row_at (noted readers source reader) s) ≡ true
-    at_reader block k s same at = pushed_at (λ x. is_in block (row_at (noted readers source reader) x) ≡ true) (row_at sources block) source (λ j x there. still x block (t.known block j x there)) (now_in readers source reader source block source_inside refl same) k s at
+    at_reader block k s same at = pushed_at (λ x. is_in block (row_at (noted readers source reader) x) ≡ true)
+        (row_at sources block) source (λ j x there. still x block (t.known block j x there))
+        (now_in readers source reader source block source_inside refl same) k s at

@@ -38,7 +38,8 @@ step_at diagram sources values k block are at =
     ∙ taken_is (row_of block.kind).timing.inherits (known_of values (sources_of diagram k block)) (least_finite (known_of values (sources_of diagram k block))) refl
     ∙ ap (λ found. period_of_next diagram found values k) (sym at))
 
-pub rounds_are : (diagram : Diagram) (rests : List Bool) (sources : List (List ℕ)) (n : ℕ) (start : Periods) → rests ≡ all_rests diagram.blocks → AreSources diagram sources → length start ≡ length diagram.blocks
+pub rounds_are : (diagram : Diagram) (rests : List Bool) (sources : List (List ℕ)) (n : ℕ) (start : Periods)
+    → rests ≡ all_rests diagram.blocks → AreSources diagram sources → length start ≡ length diagram.blocks
     → after_rounds (next_known rests sources) n start ≡ after_rounds (next_periods diagram) n start
 rounds_are diagram rests sources n start same are size =
     ap (λ rs. after_rounds (next_known rs sources) n start) same

@@ -26,7 +26,9 @@ pub stimulus-is : (diagram : Diagram) (rows : Rows) → IsChecked diagram → ro
     → IsStimulus diagram (attributes_of diagram) (stimulus_of diagram rows) rows.lines
 stimulus-is diagram rows is columns fits made = made diagram (attributes_of diagram) (number_in rows) rows.lines is.wired (are-columns diagram rows columns fits)
 
-pub has-response : ColumnsMakeStimulus → SomeTableSolves → (diagram : Diagram) (order : List ℕ) (rows : Rows) → IsOrdered diagram order → rows.columns ≡ length (input_columns diagram) → FitsColumns (input_columns diagram) rows
+pub has-response : ColumnsMakeStimulus → SomeTableSolves → (diagram : Diagram) (order : List ℕ) (rows : Rows)
+    → IsOrdered diagram order → rows.columns ≡ length (input_columns diagram)
+    → FitsColumns (input_columns diagram) rows
     → SomeResponse diagram rows
 has-response made some diagram order rows ordered columns fits =
     let solved = some diagram order (stimulus_of diagram rows) rows.lines ordered (stimulus-is diagram rows ordered.checked columns fits made) in
@@ -87,8 +89,12 @@ module _ (checked : CheckedDiagram) (rows : Rows) (is : IsChecked checked.diagra
 
 -- ---- the first sample
 
-pub before-first : (checked : CheckedDiagram) (rows : Rows) (responding : Responding) → rows.columns ≡ length (input_columns checked.diagram) → FitsColumns (input_columns checked.diagram) rows → rows.lines < 2 ^ 63
-    → length (row_of responding) ≡ length (output_columns checked.diagram) → IsSimOf checked responding.sim → ((table : Table) → Stands checked.diagram (attributes_of checked.diagram) responding.sim table 0) → IsBefore checked rows responding 0
+pub before-first : (checked : CheckedDiagram) (rows : Rows) (responding : Responding)
+    → rows.columns ≡ length (input_columns checked.diagram) → FitsColumns (input_columns checked.diagram) rows
+    → rows.lines < 2 ^ 63
+    → length (row_of responding) ≡ length (output_columns checked.diagram) → IsSimOf checked responding.sim
+    → ((table : Table) → Stands checked.diagram (attributes_of checked.diagram) responding.sim table 0)
+    → IsBefore checked rows responding 0
 before-first checked rows responding columns fits few wide sim_of stands = record {
   columns = columns;
   fits = fits;

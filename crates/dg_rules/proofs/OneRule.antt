@@ -21,7 +21,9 @@ use Rattle.std.proofs.lemmas.Option.{same_Some}
 
 -- ---- a part of a rule
 
-one_at : (diagram : Diagram) (rule : Rule) (Keeps : ℕ → Block → Type 0) (shown : ℕ → Block → Shown) (one other : RuleFault) → BreaksAt diagram rule Keeps shown one → BreaksAt diagram rule Keeps shown other → one ≡ other
+one_at : (diagram : Diagram) (rule : Rule) (Keeps : ℕ → Block → Type 0) (shown : ℕ → Block → Shown)
+    (one other : RuleFault) → BreaksAt diagram rule Keeps shown one → BreaksAt diagram rule Keeps shown other
+    → one ≡ other
 one_at diagram rule Keeps shown one other is too = elim (cases_order is.place too.place) [
   | inl same ↦
       let block : is.block ≡ too.block = same_Some is.block too.block (sym is.first.there ∙ ap (slice_get diagram.blocks) same ∙ too.first.there) in

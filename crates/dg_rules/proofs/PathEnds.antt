@@ -1,5 +1,6 @@
 -- Which ends the paths of a plan's lines have.
-use Rattle.std.proofs.Common.{◌≡◌, ℕ, ◌<◌, ◌≤◌, ◌-◌, ◌+◌, Bool, true, false, cond, List, [], ◌∷◌, ◌++◌, length, take, drop, Some, None, Option, Bor, bytes_eq, refl, sym, ap, subst, ◌∙◌, true≢false, ⊎_elim, arith}
+use Rattle.std.proofs.Common.{◌≡◌, ℕ, ◌<◌, ◌≤◌, ◌-◌, ◌+◌, Bool, true, false, cond, List, [], ◌∷◌, ◌++◌, length, take, drop, Some, None, Option, Bor, bytes_eq, refl, sym, ap, subst, ◌∙◌, true≢false}
+use Rattle.std.proofs.Common.{⊎_elim, arith}
 use Rattle.std.specs.Prelude.{codes, is_some, position, slice_get, ⊤}
 use Rattle.std.proofs.lemmas.Bool.{cases_lt}
 use Rattle.std.proofs.lemmas.List.{append_assoc, length-append, take_more}
@@ -62,7 +63,9 @@ ends_kept : (lines : List Pipeline) (entries after : List (Bor (List ℕ) × ⊤
 ends_kept lines entries after kept have = λ number line at front end parts short. kept end (have number line at front end parts short)
 
 -- those of one line more
-pub one_more_line : (lines : List Pipeline) (i : ℕ) (item : Pipeline) (entries after : List (Bor (List ℕ) × ⊤)) → i < length lines → slice_get lines i ≡ Some item → ((end : List ℕ) → is_end entries end ≡ true → is_end after end ≡ true)
+pub one_more_line : (lines : List Pipeline) (i : ℕ) (item : Pipeline) (entries after : List (Bor (List ℕ) × ⊤))
+    → i < length lines → slice_get lines i ≡ Some item
+    → ((end : List ℕ) → is_end entries end ≡ true → is_end after end ≡ true)
     → HasEnds after item.path → HaveEnds (take i lines) entries → HaveEnds (take (i + 1) lines) after
 one_more_line lines i item entries after below at kept new have =
     let longer : take (i + 1) lines ≡ take i lines ++ item ∷ [] = take_more lines i item below ∙ ap (λ (it : Pipeline). take i lines ++ it ∷ []) (get_or_from_slice_get lines i item item at) in
@@ -79,7 +82,9 @@ ends_so None name = ([], refl)
 ends_so (Some outer) name = (outer ++ codes "/", refl)
 
 -- a name ends as its last bytes do
-pub no_end : (lines : List Pipeline) (entries : List (Bor (List ℕ) × ⊤)) (name front end : List ℕ) → name ≡ front ++ end → length end ≤ 8 → is_end entries end ≡ false → HaveEnds lines entries → IsNoEnd lines name
+pub no_end : (lines : List Pipeline) (entries : List (Bor (List ℕ) × ⊤)) (name front end : List ℕ)
+    → name ≡ front ++ end → length end ≤ 8 → is_end entries end ≡ false → HaveEnds lines entries
+    → IsNoEnd lines name
 no_end lines entries name front end parts short none have = λ number line at before is.
     true≢false (sym (have number line at (before ++ front) end (is ∙ ap (λ (xs : List ℕ). before ++ xs) parts ∙ sym (append_assoc before front end)) short) ∙ none)
 

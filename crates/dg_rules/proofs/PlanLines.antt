@@ -114,5 +114,16 @@ pub count_is : (plan : Plan) (path : List ℕ) → count_in (position (has path)
 count_is plan path = by (cases_lt (position_or_len (has path) plan.pipelines) (length plan.pipelines)) where
   by : (position_or_len (has path) plan.pipelines < length plan.pipelines) ⊎ (length plan.pipelines ≤ position_or_len (has path) plan.pipelines)
       → count_in (position (has path) plan.pipelines) plan.pipelines ≡ count_of plan path
-  by (inl less) = rw (cond-true (nat_lt (position_or_len (has path) plan.pipelines) (length plan.pipelines)) (Some (position_or_len (has path) plan.pipelines)) None (lt-ltb _ _ less), turned path plan.pipelines, find_at (has path) plan.pipelines) refl
-  by (inr more) = rw (cond-false (nat_lt (position_or_len (has path) plan.pipelines) (length plan.pipelines)) (Some (position_or_len (has path) plan.pipelines)) None (le-ltb _ _ more), turned path plan.pipelines, find_at (has path) plan.pipelines, slice_get_past plan.pipelines (position_or_len (has path) plan.pipelines) more) refl
+  by (inl less) = rw (
+    cond-true (nat_lt (position_or_len (has path) plan.pipelines) (length plan.pipelines))
+        (Some (position_or_len (has path) plan.pipelines)) None (lt-ltb _ _ less),
+    turned path plan.pipelines,
+    find_at (has path) plan.pipelines,
+  ) refl
+  by (inr more) = rw (
+    cond-false (nat_lt (position_or_len (has path) plan.pipelines) (length plan.pipelines))
+        (Some (position_or_len (has path) plan.pipelines)) None (le-ltb _ _ more),
+    turned path plan.pipelines,
+    find_at (has path) plan.pipelines,
+    slice_get_past plan.pipelines (position_or_len (has path) plan.pipelines) more,
+  ) refl

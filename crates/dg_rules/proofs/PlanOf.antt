@@ -45,7 +45,10 @@ named_behind plan path [] some = absurd (omega (arith, some))
 named_behind plan path (line ∷ lines) some = by (bytes_eq line.path path) refl (named_behind plan path lines) some where
   by : (is : Bool) → bytes_eq line.path path ≡ is → (0 < count_of (with_lines plan lines) path → IsNamed lines path) → 0 < count_of (with_lines plan (line ∷ lines)) path → IsNamed (line ∷ lines) path
   by true is rest some = record { place = 0; line = line; at = refl; is = is }
-  by false is rest some = let same : count_of (with_lines plan (line ∷ lines)) path ≡ count_of (with_lines plan lines) path = rw is refl in let found = rest (subst (λ (n : ℕ). 0 < n) same some) in record { place = suc found.place; line = found.line; at = found.at; is = found.is }
+  by false is rest some = let same : count_of (with_lines plan (line ∷ lines)) path
+      ≡ count_of (with_lines plan lines) path = rw is refl in let found =
+      rest (subst (λ (n : ℕ). 0 < n) same some) in
+      record { place = suc found.place; line = found.line; at = found.at; is = found.is }
 
 mapped_index : (f : Block → ℕ) (blocks : List Block) (k : ℕ) (b : Block) → slice_get blocks k ≡ Some b → slice_index (map f blocks) k ≡ f b
 mapped_index f [] k b at = absurd (none-some b at)
@@ -55,13 +58,16 @@ mapped_index f (x ∷ blocks) (suc k) b at = mapped_index f blocks k b at
 resolved_are_allowed : (diagram : Diagram) (plan : Plan) (resolved : Resolved) → KeepsPlan diagram (attributes_of diagram) plan → IsResolved diagram plan resolved → StagesAreAllowed diagram resolved
 resolved_are_allowed diagram plan resolved keeps is = record {
   each = λ place b at some.
-      let count : stages_at resolved place ≡ count_of plan b.path = ap (λ (stages : List ℕ). slice_index stages place) is.stages ∙ mapped_index (λ (block : Block). count_of plan block.path) diagram.blocks place b at in
+      let count : stages_at resolved place ≡ count_of plan b.path =
+      ap (λ (stages : List ℕ). slice_index stages place) is.stages
+      ∙ mapped_index (λ (block : Block). count_of plan block.path) diagram.blocks place b at in
       let named = named_behind plan b.path plan.pipelines (omega (arith, some, count)) in
       let found = held (IsFound diagram (attributes_of diagram)) plan.pipelines named.place named.line keeps named.at in
       found.each place b at (sym ((bytes_eq-Decides named.line.path b.path).0 named.is));
 }
 
-pub plan_of : (diagram : Diagram) (plan : Plan) (resolved : Resolved) → IsPlanInRange plan → KeepsPlan diagram (attributes_of diagram) plan → IsResolved diagram plan resolved → IsPlanOf diagram resolved
+pub plan_of : (diagram : Diagram) (plan : Plan) (resolved : Resolved) → IsPlanInRange plan
+    → KeepsPlan diagram (attributes_of diagram) plan → IsResolved diagram plan resolved → IsPlanOf diagram resolved
 plan_of diagram plan resolved range keeps found = record {
   some_clocks = subst (λ n. 1 ≤ n) (sym found.cycles) range.some_clocks;
   few_clocks = subst (λ n. n ≤ 1024) (sym found.cycles) range.few_clocks;

@@ -30,7 +30,9 @@ use Rattle.dg_model.specs.Wired.{IsWired}
 abbrev KeepTo : Diagram → (ℕ → Block → Type 0) → ℕ → Type 0
 KeepTo diagram Keeps count = (place : ℕ) (block : Block) → place < count → slice_get diagram.blocks place ≡ Some block → Keeps place block
 
-one_more : (diagram : Diagram) (Keeps : ℕ → Block → Type 0) (count : ℕ) → KeepTo diagram Keeps count → ((block : Block) → slice_get diagram.blocks count ≡ Some block → Keeps count block) → KeepTo diagram Keeps (suc count)
+one_more : (diagram : Diagram) (Keeps : ℕ → Block → Type 0) (count : ℕ) → KeepTo diagram Keeps count
+    → ((block : Block) → slice_get diagram.blocks count ≡ Some block → Keeps count block)
+    → KeepTo diagram Keeps (suc count)
 one_more diagram Keeps count kept here place block less there = elim (cases_lt place count) [
   | inl before ↦ kept place block before there
   | inr at ↦
@@ -60,7 +62,9 @@ kept_or_first diagram Keeps none never = kept_below diagram Keeps none (length d
       | inr past ↦ absurd (none-some block (sym past.1 ∙ there))
     ]
 
-broken_at : (diagram : Diagram) (rule : Rule) (Keeps : ℕ → Block → Type 0) (shown : ℕ → Block → Shown) (place : ℕ) (block : Block) → IsFirstBroken diagram Keeps place block → BreaksAt diagram rule Keeps shown (fault_of rule (path_of diagram place) (shown place block))
+broken_at : (diagram : Diagram) (rule : Rule) (Keeps : ℕ → Block → Type 0) (shown : ℕ → Block → Shown) (place : ℕ)
+    (block : Block) → IsFirstBroken diagram Keeps place block
+    → BreaksAt diagram rule Keeps shown (fault_of rule (path_of diagram place) (shown place block))
 broken_at diagram rule Keeps shown place block first = record { place = place; block = block; first = first; fault_is = refl }
 
 -- ---- cycles
@@ -110,7 +114,9 @@ turned diagram attributes x xs is = record {
 }
 
 -- a cycle begun with any of its blocks
-begun_at : (diagram : Diagram) (attributes : Attributes) (k : ℕ) (cycle : List ℕ) → IsInstantCycle diagram attributes cycle → k < length cycle → (more : List ℕ) × IsInstantCycle diagram attributes (slice_index cycle k ∷ more)
+begun_at : (diagram : Diagram) (attributes : Attributes) (k : ℕ) (cycle : List ℕ)
+    → IsInstantCycle diagram attributes cycle → k < length cycle
+    → (more : List ℕ) × IsInstantCycle diagram attributes (slice_index cycle k ∷ more)
 begun_at diagram attributes k [] is below = absurd (omega (arith, below))
 begun_at diagram attributes zero (x ∷ xs) is below = (xs, is)
 begun_at diagram attributes (suc k) (x ∷ xs) is below =
@@ -118,7 +124,9 @@ begun_at diagram attributes (suc k) (x ∷ xs) is below =
     (found.0, subst (λ (b : ℕ). IsInstantCycle diagram attributes (b ∷ found.0)) (get_or-append xs (x ∷ []) 0 k (omega (arith, below))) found.1)
 
 -- where no cycle begins with the least block on any, there is none
-no_cycle : (diagram : Diagram) (attributes : Attributes) → ((fault : RuleFault) → BreaksLoop diagram attributes fault → ⊥) → (count first : ℕ) (more : List ℕ) → first < count → IsInstantCycle diagram attributes (first ∷ more) → ⊥
+no_cycle : (diagram : Diagram) (attributes : Attributes)
+    → ((fault : RuleFault) → BreaksLoop diagram attributes fault → ⊥) → (count first : ℕ) (more : List ℕ)
+    → first < count → IsInstantCycle diagram attributes (first ∷ more) → ⊥
 no_cycle diagram attributes none zero first more below is = omega (arith, below)
 no_cycle diagram attributes none (suc count) first more below is =
     none (fault_of Rule.Loop (path_of diagram first) (Cycle (first ∷ more))) (record {
@@ -150,9 +158,28 @@ kept_types diagram dimensions none never =
     kept_or_first diagram (IsNotWide diagram (types_of diagram))
     (λ place block first. none _ (inr (inl (record { dimensions = dimensions; types = inl (broken_at diagram Rule.Type _ (λ p b. Word (codes "wide")) place block first) }))))
     (λ narrow. kept_or_first diagram (HasTypes diagram (types_of diagram))
-    (λ place block first. none _ (inr (inl (record { dimensions = dimensions; types = inr (inl (record { narrow = narrow; unknown = broken_at diagram Rule.Type _ (λ p b. Word (codes "missing")) place block first })) }))))
+    (λ place block first. none _ (inr (inl
+    (record {
+      dimensions = dimensions;
+      types =
+          inr (inl (record {
+            narrow = narrow;
+            unknown =
+                broken_at diagram Rule.Type _ (λ p b. Word (codes "missing")) place block first;
+          }));
+    }))))
     (λ known. kept_or_first diagram (HasAgreeing diagram (types_of diagram))
-    (λ place block first. none _ (inr (inl (record { dimensions = dimensions; types = inr (inr (record { narrow = narrow; known = known; differ = broken_at diagram Rule.Type _ (λ p b. Word (codes "differs")) place block first })) }))))
+    (λ place block first. none _ (inr (inl
+    (record {
+      dimensions = dimensions;
+      types =
+          inr (inr (record {
+            narrow = narrow;
+            known = known;
+            differ =
+                broken_at diagram Rule.Type _ (λ p b. Word (codes "differs")) place block first;
+          }));
+    }))))
     (λ agree. never (record { narrow = narrow; known = known; agree = agree }))))
 
 kept_rates : (diagram : Diagram) → KeepsDimensions diagram → KeepsTypes diagram → ((fault : RuleFault) → BreaksRule diagram fault → ⊥) → (KeepsRates diagram → ⊥) → ⊥
@@ -160,7 +187,17 @@ kept_rates diagram dimensions types none never =
     kept_or_first diagram (KeepsDeclared diagram)
     (λ place block first. none _ (inr (inr (inl (record { dimensions = dimensions; types = types; rates = inl (broken_at diagram Rule.Rate _ (λ p b. Word (codes "declared")) place block first) })))))
     (λ declared. kept_or_first diagram (KeepsPeriods diagram (periods_of diagram))
-    (λ place block first. none _ (inr (inr (inl (record { dimensions = dimensions; types = types; rates = inr (record { declared = declared; periods = broken_at diagram Rule.Rate _ (shown_periods diagram (periods_of diagram)) place block first }) })))))
+    (λ place block first. none _ (inr (inr
+    (inl (record {
+      dimensions = dimensions;
+      types = types;
+      rates =
+          inr (record {
+            declared = declared;
+            periods =
+                broken_at diagram Rule.Rate _ (shown_periods diagram (periods_of diagram)) place block first;
+          });
+    })))))
     (λ periods. never (record { declared = declared; periods = periods })))
 
 pub some_rule : (diagram : Diagram) → IsWired diagram → (IsChecked diagram → ⊥) → ((fault : RuleFault) → BreaksRule diagram fault → ⊥) → ⊥

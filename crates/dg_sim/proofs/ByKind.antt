@@ -29,7 +29,9 @@ module _ (diagram : Diagram) (attributes : Attributes) (place : Place) (b : Bloc
 
   -- a block with an operation works element by element
   by_op : (kind : Kind) (op : Op) → IsOpOf kind place.element (attributes.param_at place.block) (type_into diagram attributes place.block 2) op
-      → (stimulus : Stimulus) (table : Table) (t : ℕ) (v : ℤ) → ElementEquation diagram attributes stimulus table b place.block place.element t v → KindEquation diagram attributes stimulus table kind b place.block place.port place.element t v
+      → (stimulus : Stimulus) (table : Table) (t : ℕ) (v : ℤ)
+      → ElementEquation diagram attributes stimulus table b place.block place.element t v
+      → KindEquation diagram attributes stimulus table kind b place.block place.port place.element t v
   by_op (Outport number) op is stimulus table t v h = h
   by_op (Sum negative accum) op is stimulus table t v h = h
   by_op (Gain value spec) op is stimulus table t v h = h
@@ -46,7 +48,9 @@ module _ (diagram : Diagram) (attributes : Attributes) (place : Place) (b : Bloc
 
   -- and one whose operation hands its input on
   passes : b.inputs ≡ 1 → IsOpOf b.kind place.element (attributes.param_at place.block) (type_into diagram attributes place.block 2) OpPass
-      → (stimulus : Stimulus) (table : Table) (t : ℕ) → ElementEquation diagram attributes stimulus table b place.block place.element t (value_into diagram attributes table place.block 1 place.element t)
+      → (stimulus : Stimulus) (table : Table) (t : ℕ)
+      → ElementEquation diagram attributes stimulus table b place.block place.element t
+      (value_into diagram attributes table place.block 1 place.element t)
   passes one is_op stimulus table t =
       let some : 0 < b.inputs = omega (arith, one) in
       (OpPass, is_op, sym (get_mapped (λ port. value_into diagram attributes table place.block port place.element t) (pos 0) 1 b.inputs 0 some))

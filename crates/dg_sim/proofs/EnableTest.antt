@@ -1,5 +1,6 @@
 -- The control of an enabled subsystem asks for some element above 0.
-use Rattle.std.proofs.Common.{◌≡◌, ℕ, ◌<◌, ◌+◌, ◌++◌, ◌||◌, Bool, ℤ, pos, int_lt, List, [], ◌∷◌, ◌⊎◌, inl, inr, length, map, Some, slice_get, ap, sym, ◌∙◌, subst, subst₂, refl, arith, append-nil, length-append}
+use Rattle.std.proofs.Common.{◌≡◌, ℕ, ◌<◌, ◌+◌, ◌++◌, ◌||◌, Bool, ℤ, pos, int_lt, List, [], ◌∷◌, ◌⊎◌, inl, inr, length, map, Some, slice_get, ap, sym, ◌∙◌, subst, subst₂, refl, arith, append-nil}
+use Rattle.std.proofs.Common.{length-append}
 use Rattle.std.specs.List.{list_any}
 use Rattle.fx_type.specs.declared.kind.FxType.{FxType}
 use Rattle.math_list.specs.Numbers.{numbers_from}
@@ -24,7 +25,9 @@ any_map : (p : ℤ → Bool) (f : ℕ → ℤ) (xs : List ℕ) → list_any p (m
 any_map p f [] = refl
 any_map p f (x ∷ xs) = ap (λ (b : Bool). p (f x) || b) (any_map p f xs)
 
-pub elements_more : (diagram : Diagram) (attributes : Attributes) (places : List Place) (block k : ℕ) (numbers : List ℕ) (number n : ℕ) → length numbers ≡ n → number < k → Reads diagram attributes places block 1 n number
+pub elements_more : (diagram : Diagram) (attributes : Attributes) (places : List Place) (block k : ℕ)
+    (numbers : List ℕ) (number n : ℕ) → length numbers ≡ n → number < k
+    → Reads diagram attributes places block 1 n number
     → AreElements diagram attributes places block k numbers → AreElements diagram attributes places block k (numbers ++ number ∷ [])
 elements_more diagram attributes places block k numbers number n size below reads are i j at = go (push_cases numbers number i j at)
   where
@@ -35,9 +38,19 @@ elements_more diagram attributes places block k numbers number n size below read
         (subst (λ (m : ℕ). m < k) h.1 below, subst₂ (λ (element m : ℕ). Reads diagram attributes places block 1 element m) at_end h.1 reads)
 
 pub above_made : (diagram : Diagram) (attributes : Attributes) (old : Program) (k : ℕ) (place : Place) (b : Block) → slice_get diagram.blocks place.block ≡ Some b → b.kind ≡ EnableTest
-    → (first width : ℕ) (numbers args : List ℕ) (types more : List FxType) → first ≡ length old.args → width ≡ width_into diagram attributes place.block 1 → length numbers ≡ width → args ≡ old.args ++ numbers
+    → (first width : ℕ) (numbers args : List ℕ) (types more : List FxType) → first ≡ length old.args
+    → width ≡ width_into diagram attributes place.block 1 → length numbers ≡ width → args ≡ old.args ++ numbers
     → AreElements diagram attributes old.places place.block k numbers → types ≡ old.types ++ more → length more ≡ width
-    → IsMade diagram attributes old (record { places = old.places; cells = old.cells; args = args; types = types; signs = old.signs; memories = old.memories; outputs = old.outputs }) k place (Above first width)
+    → IsMade diagram attributes old (record {
+      places = old.places;
+      cells = old.cells;
+      args = args;
+      types =
+          types;
+      signs = old.signs;
+      memories = old.memories;
+      outputs = old.outputs;
+    }) k place (Above first width)
 above_made diagram attributes old k place b block_is kind first width numbers args types more first_is width_is size args_is are types_is more_size = record {
   grows = record {
     places = refl;

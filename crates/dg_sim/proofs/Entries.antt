@@ -15,7 +15,9 @@ use Rattle.dg_tables.specs.Entries.{IsEntry}
 use Rattle.math_list.proofs.Places.{held}
 
 -- what is read at an entry's block is the block
-pub block_there : (diagram : Diagram) (attributes : Attributes) (place : Place) (list : List Block) (one : Block) → list ≡ diagram.blocks → IsEntry diagram attributes place → one ≡ get_or list place.block one → slice_get diagram.blocks place.block ≡ Some one
+pub block_there : (diagram : Diagram) (attributes : Attributes) (place : Place) (list : List Block) (one : Block)
+    → list ≡ diagram.blocks → IsEntry diagram attributes place → one ≡ get_or list place.block one
+    → slice_get diagram.blocks place.block ≡ Some one
 block_there diagram attributes place list one e entry is =
     slice_get_read diagram.blocks _ place.block one refl (slice_get_within diagram.blocks place.block entry.0 entry.1.block_is) (subst (λ (xs : List Block). one ≡ get_or xs place.block one) e is)
 

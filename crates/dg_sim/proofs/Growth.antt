@@ -30,7 +30,8 @@ grows_same program = record {
 }
 
 -- nothing is put for a block whose value never changes
-pub fixed_made : (diagram : Diagram) (attributes : Attributes) (program : Program) (k : ℕ) (place : Place) (v : ℤ) → IsAlways diagram attributes place v → IsMade diagram attributes program program k place (Fixed v)
+pub fixed_made : (diagram : Diagram) (attributes : Attributes) (program : Program) (k : ℕ) (place : Place) (v : ℤ)
+    → IsAlways diagram attributes place v → IsMade diagram attributes program program k place (Fixed v)
 fixed_made diagram attributes program k place v is = record { grows = grows_same program; memories = λ are. are; made = fixed_rule diagram attributes program k place v is }
 
 module _ (old new : Program) (grows : Grows old new) where
@@ -47,8 +48,11 @@ module _ (old new : Program) (grows : Grows old new) where
   within_grows (Input column) h = h
   within_grows (Fixed value) h = h
   within_grows (Same from) h = h
-  within_grows (Works work) h =
-      (longer old.args grows.args.0 new.args (work.first + work.count) grows.args.1 h.0, longer old.types grows.types.0 new.types (work.first + work.count) grows.types.1 h.1, longer old.signs grows.signs.0 new.signs (work.first_sign + work.signs) grows.signs.1 h.2)
+  within_grows (Works work) h = (
+    longer old.args grows.args.0 new.args (work.first + work.count) grows.args.1 h.0,
+    longer old.types grows.types.0 new.types (work.first + work.count) grows.types.1 h.1,
+    longer old.signs grows.signs.0 new.signs (work.first_sign + work.signs) grows.signs.1 h.2,
+  )
   within_grows (Above first count) h = longer old.args grows.args.0 new.args (first + count) grows.args.1 h
   within_grows (Past memory age initial) h = longer_below old.memories grows.memories.0 new.memories memory grows.memories.1 h
   within_grows (Slower memory period initial) h = longer_below old.memories grows.memories.0 new.memories memory grows.memories.1 h
@@ -98,5 +102,7 @@ module _ (old new : Program) (grows : Grows old new) where
         (subst (λ (places : List Place). Agrees diagram attributes places k look table t) grows.places agrees)
         (λ m memory b at block_is. keep m memory b (ap (λ (memories : List Memory). slice_get memories m) grows.memories.1 ∙ get_left old.memories grows.memories.0 m memory at) block_is)
         row_is hit (gives_back look kept row t v rule is.within gives);
-    can = λ table t look agrees in_range. can_forth look rule is.within (is.can table t look (subst (λ (places : List Place). Agrees diagram attributes places k look table t) grows.places agrees) in_range);
+    can = λ table t look agrees in_range. can_forth look rule is.within
+        (is.can table t look (subst (λ (places : List Place). Agrees diagram attributes places k look table t)
+        grows.places agrees) in_range);
   }

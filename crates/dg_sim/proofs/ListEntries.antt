@@ -29,7 +29,9 @@ module _ (diagram : Diagram) (is : IsChecked diagram) (block port element : ℕ)
   list_entry kind list kind_is lists single widths =
       let to : port ≤ shown_ports kind b.outputs = subst (λ (kind : Kind). port ≤ shown_ports kind b.outputs) kind_is shown.port_to in
       let first : port ≡ 1 = omega (arith, to, single, shown.port_from) in
-      let at_port : element < shown_width diagram (attributes_of diagram) kind block port = subst (λ (kind : Kind). element < shown_width diagram (attributes_of diagram) kind block port) kind_is shown.element_below in
+      let at_port : element < shown_width diagram (attributes_of diagram) kind block port =
+      subst (λ (kind : Kind). element < shown_width diagram (attributes_of diagram) kind block port) kind_is
+      shown.element_below in
       let below : element < width = subst (λ (p : ℕ). element < (attributes_of diagram).width_at block p) first (subst (λ (n : ℕ). element < n) (widths port) at_port) in
       let fit : All (λ (list : List Decimal). IsRepeated width (length list)) (list ∷ []) =
       subst (λ (lists : List (List Decimal)). All (λ (list : List Decimal). IsRepeated width (length list)) lists) lists

@@ -1,5 +1,6 @@
 -- Rules that look back serve the equations of their blocks.
-use Rattle.std.proofs.Common.{◌≡◌, ℕ, suc, ◌<◌, ◌≤◌, ◌-◌, ◌++◌, ◌&&◌, Bool, true, false, ℤ, pos, List, [], ◌∷◌, length, length-append, Option, Some, None, slice_get, MatchOption, MatchBool, if◌then◌else◌, cond, filter, unwrap_or, sym, ◌∙◌, subst, ap, refl, arith, append-nil, ◌⊎◌, inl, inr}
+use Rattle.std.proofs.Common.{◌≡◌, ℕ, suc, ◌<◌, ◌≤◌, ◌-◌, ◌++◌, ◌&&◌, Bool, true, false, ℤ, pos, List, [], ◌∷◌, length, length-append, Option, Some, None, slice_get, MatchOption, MatchBool}
+use Rattle.std.proofs.Common.{if◌then◌else◌, cond, filter, unwrap_or, sym, ◌∙◌, subst, ap, refl, arith, append-nil, ◌⊎◌, inl, inr}
 use Rattle.std.proofs.lemmas.Option.{slice_get_within}
 use Rattle.fx_type.specs.declared.decimal.Decimal.{Decimal}
 use Rattle.dg_model.specs.declared.diagram.Diagram.{Diagram}
@@ -85,7 +86,9 @@ module _ (diagram : Diagram) (attributes : Attributes) (old new : Program) (plac
             ∙ ap (λ (p : Place). value_into diagram attributes table p.block 1 p.element t) (sym place_is);
       }
 
-      go : AreMemories diagram attributes old → (n : ℕ) (one : Memory) → (slice_get old.memories n ≡ Some one) ⊎ ((n ≡ length old.memories) × (memory ≡ one)) → (b : Block) × IsMemory diagram attributes new one b
+      go : AreMemories diagram attributes old → (n : ℕ) (one : Memory)
+          → (slice_get old.memories n ≡ Some one) ⊎ ((n ≡ length old.memories) × (memory ≡ one))
+          → (b : Block) × IsMemory diagram attributes new one b
       go are n one (inl h) =
           let is = are n one h in (
             is.0,
@@ -100,7 +103,9 @@ module _ (diagram : Diagram) (attributes : Attributes) (old new : Program) (plac
       go are n one (inr h) = (b, subst (λ (memory : Memory). IsMemory diagram attributes new memory b) h.1 own)
 
   -- a Delay
-  pub delay_made : KeptIsRead → (k m delay : ℕ) (initial : List Decimal) (reset : Bool) (first : ℤ) → b.kind ≡ Delay delay initial reset → 1 ≤ delay → StoresEntry initial place.element (attributes.type_at place.block 1) first
+  pub delay_made : KeptIsRead → (k m delay : ℕ) (initial : List Decimal) (reset : Bool) (first : ℤ)
+      → b.kind ≡ Delay delay initial reset → 1 ≤ delay
+      → StoresEntry initial place.element (attributes.type_at place.block 1) first
       → IsRemembered diagram attributes old new place m → IsMade diagram attributes old new k place (Past m (delay - 1) first)
   delay_made read k m delay initial reset first kind some stores is = record {
     grows = is.grows;
@@ -114,13 +119,16 @@ module _ (diagram : Diagram) (attributes : Attributes) (old new : Program) (plac
           ∙ ap (λ (kind : Kind). kept_values diagram attributes table place.block b.enable kind place.element t) kind in
           of_kind diagram attributes place b block_is (Delay delay initial reset) kind stimulus table t v
           (read diagram attributes stimulus table place.block b.enable (Delay delay initial reset) initial place.element t (delay - 1) v (omega arith)
-          (kept_match (slice_get (kept_values diagram attributes table place.block b.enable (Delay delay initial reset) place.element t) (delay - 1)) first v (StoresEntry initial place.element (attributes.type_at place.block 1)) stores
+          (kept_match (slice_get (kept_values diagram attributes table place.block b.enable
+          (Delay delay initial reset) place.element t) (delay - 1)) first v
+          (StoresEntry initial place.element (attributes.type_at place.block 1)) stores
           (gives ∙ ap (λ (kept : List ℤ). kept_or kept (delay - 1) first) kept_is)));
       can = λ table t look agrees in_range. tt;
     };
   }
 
-  pub delay_move_is : (places : List Place) (period control : Option ℕ) (delay : ℕ) (initial : List Decimal) (reset : Bool) → b.kind ≡ Delay delay initial reset → period ≡ attributes.period_at place.block
+  pub delay_move_is : (places : List Place) (period control : Option ℕ) (delay : ℕ) (initial : List Decimal)
+      (reset : Bool) → b.kind ≡ Delay delay initial reset → period ≡ attributes.period_at place.block
       → IsControl diagram attributes places b.enable control → Moves diagram attributes places place b period control reset
   delay_move_is places period control delay initial reset kind period_is is_control table t look agrees =
       ap (λ (period : Option ℕ). move_of (is_hit period t) (is_on look control) reset) period_is
@@ -128,7 +136,8 @@ module _ (diagram : Diagram) (attributes : Attributes) (old new : Program) (plac
       ∙ ap (λ (kind : Kind). move_at diagram attributes table place.block b.enable kind t) (sym kind)
 
   -- what a memory of the block keeps
-  own_kept : (table : Table) (t : ℕ) (kept : ℕ → List ℤ) (m : ℕ) (kind : Kind) → b.kind ≡ kind → (is : IsRemembered diagram attributes old new place m) → Keep diagram attributes new.memories kept table t
+  own_kept : (table : Table) (t : ℕ) (kept : ℕ → List ℤ) (m : ℕ) (kind : Kind) → b.kind ≡ kind
+      → (is : IsRemembered diagram attributes old new place m) → Keep diagram attributes new.memories kept table t
       → kept m ≡ kept_values diagram attributes table place.block b.enable kind place.element t
   own_kept table t kept m kind kind_is is keep =
       let here : slice_get diagram.blocks is.memory.place.block ≡ Some b = ap (λ (p : Place). slice_get diagram.blocks p.block) is.place_is ∙ block_is in
@@ -136,7 +145,9 @@ module _ (diagram : Diagram) (attributes : Attributes) (old new : Program) (plac
       ∙ ap (λ (kind : Kind). kept_values diagram attributes table place.block b.enable kind place.element t) kind_is
 
   -- a transition from slow to fast
-  pub slow_moves : (places : List Place) (slow : Option ℕ) (period : Decimal) (initial : List Decimal) → b.kind ≡ RateTransition period initial → slow ≡ period_into diagram attributes place.block 1 → Moves diagram attributes places place b slow None false
+  pub slow_moves : (places : List Place) (slow : Option ℕ) (period : Decimal) (initial : List Decimal)
+      → b.kind ≡ RateTransition period initial → slow ≡ period_into diagram attributes place.block 1
+      → Moves diagram attributes places place b slow None false
   slow_moves places slow period initial kind slow_is table t look agrees =
       go (is_hit slow t) ∙ ap (λ (slow : Option ℕ). count_if (is_hit slow t)) slow_is ∙ ap (λ (kind : Kind). move_at diagram attributes table place.block b.enable kind t) (sym kind)
     where
@@ -144,7 +155,8 @@ module _ (diagram : Diagram) (attributes : Attributes) (old new : Program) (plac
       go true = refl
       go false = refl
 
-  pub slow_made : KeptIsRead → (k m : ℕ) (slow : Option ℕ) (period : Decimal) (initial : List Decimal) (first : ℤ) → b.kind ≡ RateTransition period initial → slow ≡ period_into diagram attributes place.block 1
+  pub slow_made : KeptIsRead → (k m : ℕ) (slow : Option ℕ) (period : Decimal) (initial : List Decimal) (first : ℤ)
+      → b.kind ≡ RateTransition period initial → slow ≡ period_into diagram attributes place.block 1
       → is_slow_to_fast slow (attributes.period_at place.block) ≡ true → StoresEntry initial place.element (attributes.type_at place.block 1) first
       → IsRemembered diagram attributes old new place m → IsMade diagram attributes old new k place (Slower m slow first)
   slow_made read k m slow period initial first kind slow_is slower stores is = record {
@@ -154,13 +166,20 @@ module _ (diagram : Diagram) (attributes : Attributes) (old new : Program) (plac
       within = slice_get_within new.memories m is.memory is.there;
       serves = λ stimulus table t look kept row v agrees keep row_is hit gives.
           let driver = period_into diagram attributes place.block 1 in
-          let match = kept_match (slice_get (kept_values diagram attributes table place.block b.enable (RateTransition period initial) place.element t) (if is_hit slow t then 0 else 1)) first v (StoresEntry initial place.element (attributes.type_at place.block 1)) stores
+          let match = kept_match (slice_get (kept_values diagram attributes table place.block b.enable
+          (RateTransition period initial) place.element t) (if is_hit slow t then 0 else 1)) first v
+          (StoresEntry initial place.element (attributes.type_at place.block 1)) stores
           (gives ∙ ap (λ (kept : List ℤ). kept_or kept (if is_hit slow t then 0 else 1) first) (own_kept table t kept m (RateTransition period initial) kind is keep)) in
-          let at = read diagram attributes stimulus table place.block b.enable (RateTransition period initial) initial place.element t (if is_hit slow t then 0 else 1) v (age_below (is_hit slow t)) match in
+          let at = read diagram attributes stimulus table place.block b.enable
+          (RateTransition period initial) initial place.element t (if is_hit slow t then 0 else 1) v
+          (age_below (is_hit slow t)) match in
           let second : slice_get (hits_before driver t) (if is_hit slow t then 0 else 1) ≡ slice_get (hits_before driver (suc t)) 1 =
           ap (λ (p : Option ℕ). slice_get (hits_before driver t) (if is_hit p t then 0 else 1)) slow_is ∙ second_before driver t in
           of_kind diagram attributes place b block_is (RateTransition period initial) kind stimulus table t v
-          (subst (λ (slower : Bool). MatchBool slower (IsInputAt diagram attributes stimulus table place.block initial place.element (slice_get (hits_before driver (suc t)) 1) v) (v ≡ value_into diagram attributes table place.block 1 place.element t))
+          (subst (λ (slower : Bool). MatchBool slower
+          (IsInputAt diagram attributes stimulus table place.block initial place.element
+          (slice_get (hits_before driver (suc t)) 1) v)
+          (v ≡ value_into diagram attributes table place.block 1 place.element t))
           (sym slower ∙ ap (λ (p : Option ℕ). is_slow_to_fast p (attributes.period_at place.block)) slow_is)
           (subst (λ (o : Option ℕ). IsInputAt diagram attributes stimulus table place.block initial place.element o v) second at));
       can = λ table t look agrees in_range. tt;
@@ -184,19 +203,27 @@ module _ (diagram : Diagram) (attributes : Attributes) (old new : Program) (plac
   fast_hands driver period initial kind driver_is fast stimulus table t =
       let v = value_into diagram attributes table place.block 1 place.element t in
       of_kind diagram attributes place b block_is (RateTransition period initial) kind stimulus table t v
-      (subst (λ (slower : Bool). MatchBool slower (IsInputAt diagram attributes stimulus table place.block initial place.element (slice_get (hits_before (period_into diagram attributes place.block 1) (suc t)) 1) v) (v ≡ v))
+      (subst (λ (slower : Bool). MatchBool slower
+      (IsInputAt diagram attributes stimulus table place.block initial place.element
+      (slice_get (hits_before (period_into diagram attributes place.block 1) (suc t)) 1) v) (v ≡ v))
       (sym fast ∙ ap (λ (p : Option ℕ). is_slow_to_fast p (attributes.period_at place.block)) driver_is) refl)
 
   -- a control that stands before is on where its subsystem is enabled
-  control_on : (places : List Place) (cell k t : ℕ) (table : Table) (look : ℕ → ℤ) → IsControlCell places b.enable cell → cell < k → Agrees diagram attributes places k look table t → is_on look (Some cell) ≡ is_enabled table b.enable t
+  control_on : (places : List Place) (cell k t : ℕ) (table : Table) (look : ℕ → ℤ)
+      → IsControlCell places b.enable cell → cell < k → Agrees diagram attributes places k look table t
+      → is_on look (Some cell) ≡ is_enabled table b.enable t
   control_on places cell k t table look is below agrees =
       ap (λ (v : ℤ). int_eq v (pos 1)) (agrees cell (record { block = is.0; port = 1; element = 0 }) below is.2) ∙ ap (λ (o : Option ℕ). is_enabled table o t) (sym is.1)
 
-  pub gated_moves : (places : List Place) (period : Option ℕ) (cell : ℕ) (reset : Bool) (initial : List Decimal) → b.kind ≡ EnOut reset initial → period ≡ attributes.period_at place.block → IsControlCell places b.enable cell
+  pub gated_moves : (places : List Place) (period : Option ℕ) (cell : ℕ) (reset : Bool) (initial : List Decimal)
+      → b.kind ≡ EnOut reset initial → period ≡ attributes.period_at place.block
+      → IsControlCell places b.enable cell
       → Moves diagram attributes places place b period (Some cell) false
   gated_moves places period cell reset initial kind period_is is table t look agrees =
       go (is_hit period t) (is_on look (Some cell))
-      ∙ ap (λ (on : Bool). count_if (is_hit period t && on)) (control_on places cell (length places) t table look is (slice_get_within places cell (record { block = is.0; port = 1; element = 0 }) is.2) agrees)
+      ∙ ap (λ (on : Bool). count_if (is_hit period t && on))
+      (control_on places cell (length places) t table look is
+      (slice_get_within places cell (record { block = is.0; port = 1; element = 0 }) is.2) agrees)
       ∙ ap (λ (p : Option ℕ). count_if (is_hit p t && is_enabled table b.enable t)) period_is
       ∙ ap (λ (kind : Kind). move_at diagram attributes table place.block b.enable kind t) (sym kind)
     where
@@ -205,7 +232,9 @@ module _ (diagram : Diagram) (attributes : Attributes) (old new : Program) (plac
       go true false = refl
       go false on = refl
 
-  module _ (k cell from : ℕ) (initial : List Decimal) (first : ℤ) (below : cell < k) (from_below : from < k) (control : IsControlCell new.places b.enable cell) (reads : Reads diagram attributes new.places place.block 1 place.element from)
+  module _ (k cell from : ℕ) (initial : List Decimal) (first : ℤ) (below : cell < k) (from_below : from < k)
+      (control : IsControlCell new.places b.enable cell)
+      (reads : Reads diagram attributes new.places place.block 1 place.element from)
       (stores : StoresEntry initial place.element (attributes.type_at place.block 1) first)
     where
       from_is : (table : Table) (t : ℕ) (look : ℕ → ℤ) → Agrees diagram attributes new.places k look table t → look from ≡ value_into diagram attributes table place.block 1 place.element t
@@ -217,7 +246,10 @@ module _ (diagram : Diagram) (attributes : Attributes) (old new : Program) (plac
         serves = λ stimulus table t look kept row v agrees keep row_is hit gives.
             of_kind diagram attributes place b block_is (EnOut true initial) kind stimulus table t v
             (subst (λ (on : Bool). MatchBool on (v ≡ value_into diagram attributes table place.block 1 place.element t) (StoresEntry initial place.element (attributes.type_at place.block 1) v))
-            (control_on new.places cell k t table look control below agrees) (by_control (is_on look (Some cell)) v (look from) (value_into diagram attributes table place.block 1 place.element t) (from_is table t look agrees) gives));
+            (control_on new.places cell k t table look control below agrees)
+            (by_control (is_on look (Some cell)) v (look from)
+            (value_into diagram attributes table place.block 1 place.element t)
+            (from_is table t look agrees) gives));
         can = λ table t look agrees in_range. tt;
       }
         where
@@ -230,7 +262,9 @@ module _ (diagram : Diagram) (attributes : Attributes) (old new : Program) (plac
         within = slice_get_within new.memories m is.memory is.there;
         serves = λ stimulus table t look kept row v agrees keep row_is hit gives.
             of_kind diagram attributes place b block_is (EnOut false initial) kind stimulus table t v
-            (subst (λ (hits : List ℕ). IsInputAt diagram attributes stimulus table place.block initial place.element (slice_get (filter (is_enabled table b.enable) hits) 0) v) (sym (now_first (attributes.period_at place.block) t hit))
+            (subst (λ (hits : List ℕ). IsInputAt diagram attributes stimulus table place.block initial place.element
+            (slice_get (filter (is_enabled table b.enable) hits) 0) v)
+            (sym (now_first (attributes.period_at place.block) t hit))
             (by_control stimulus table t v (look from) kept keep (is_on look (Some cell)) (control_on new.places cell k t table look control below agrees) (from_is table t look agrees) gives));
         can = λ table t look agrees in_range. tt;
       }
@@ -244,11 +278,23 @@ module _ (diagram : Diagram) (attributes : Attributes) (old new : Program) (plac
 
           by_control : (stimulus : Stimulus) (table : Table) (t : ℕ) (v x : ℤ) (kept : ℕ → List ℤ) → Keep diagram attributes new.memories kept table t → (on : Bool) → on ≡ is_enabled table b.enable t
               → x ≡ value_into diagram attributes table place.block 1 place.element t → v ≡ (if on then x else kept_or (kept m) 0 first)
-              → IsInputAt diagram attributes stimulus table place.block initial place.element (slice_get (filter (is_enabled table b.enable) (t ∷ hits_before (attributes.period_at place.block) t)) 0) v
+              → IsInputAt diagram attributes stimulus table place.block initial place.element
+              (slice_get (filter (is_enabled table b.enable)
+              (t ∷ hits_before (attributes.period_at place.block) t)) 0) v
           by_control stimulus table t v x kept keep true e input gives =
-              subst (λ (on : Bool). IsInputAt diagram attributes stimulus table place.block initial place.element (slice_get (cond on (t ∷ filter (is_enabled table b.enable) (hits_before (attributes.period_at place.block) t)) (filter (is_enabled table b.enable) (hits_before (attributes.period_at place.block) t))) 0) v) e (gives ∙ input)
+              subst (λ (on : Bool). IsInputAt diagram attributes stimulus table place.block initial place.element
+              (slice_get (cond on (t ∷ filter (is_enabled table b.enable)
+              (hits_before (attributes.period_at place.block) t))
+              (filter (is_enabled table b.enable) (hits_before (attributes.period_at place.block) t)))
+              0) v) e (gives ∙ input)
           by_control stimulus table t v x kept keep false e input gives =
-              subst (λ (on : Bool). IsInputAt diagram attributes stimulus table place.block initial place.element (slice_get (cond on (t ∷ filter (is_enabled table b.enable) (hits_before (attributes.period_at place.block) t)) (filter (is_enabled table b.enable) (hits_before (attributes.period_at place.block) t))) 0) v) e
+              subst (λ (on : Bool). IsInputAt diagram attributes stimulus table place.block initial place.element
+              (slice_get (cond on (t ∷ filter (is_enabled table b.enable)
+              (hits_before (attributes.period_at place.block) t))
+              (filter (is_enabled table b.enable) (hits_before (attributes.period_at place.block) t)))
+              0) v) e
               (read diagram attributes stimulus table place.block b.enable (EnOut false initial) initial place.element t 0 v (omega arith)
-              (kept_match (slice_get (kept_values diagram attributes table place.block b.enable (EnOut false initial) place.element t) 0) first v (StoresEntry initial place.element (attributes.type_at place.block 1)) stores
+              (kept_match (slice_get (kept_values diagram attributes table place.block b.enable
+              (EnOut false initial) place.element t) 0) first v
+              (StoresEntry initial place.element (attributes.type_at place.block 1)) stores
               (gives ∙ ap (λ (kept : List ℤ). kept_or kept 0 first) (own_kept table t kept m (EnOut false initial) kind is keep))))

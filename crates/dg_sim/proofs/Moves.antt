@@ -15,7 +15,9 @@ after memory t row past = past_moved (move_of (is_hit memory.period t) (is_on (v
 
 -- the memories before m have moved
 abbrev pub AreMoved : Program → ℕ → List ℤ → List PastValues → ℕ → List PastValues → Type 0
-AreMoved program t row old m pasts = (j : ℕ) (memory : Memory) (past : PastValues) → j < m → slice_get program.memories j ≡ Some memory → slice_get old j ≡ Some past → slice_get pasts j ≡ Some (after memory t row past)
+AreMoved program t row old m pasts = (j : ℕ) (memory : Memory) (past : PastValues) → j < m
+    → slice_get program.memories j ≡ Some memory → slice_get old j ≡ Some past
+    → slice_get pasts j ≡ Some (after memory t row past)
 
 pub get-set_other : {X : Type 0} (xs : List X) (i j : ℕ) (x : X) → (j ≡ i → ⊥) → slice_get (set xs i x) j ≡ slice_get xs j
 get-set_other [] i j x h = refl
@@ -24,7 +26,9 @@ get-set_other (y ∷ ys) zero (suc j) x h = refl
 get-set_other (y ∷ ys) (suc i) zero x h = refl
 get-set_other (y ∷ ys) (suc i) (suc j) x h = get-set_other ys i j x (λ e. h (ap suc e))
 
-pub moved_more : (program : Program) (t : ℕ) (row : List ℤ) (old pasts : List PastValues) (m : ℕ) (memory : Memory) (past : PastValues) → m < length pasts → slice_get program.memories m ≡ Some memory → slice_get pasts m ≡ Some past
+pub moved_more : (program : Program) (t : ℕ) (row : List ℤ) (old pasts : List PastValues) (m : ℕ) (memory : Memory)
+    (past : PastValues) → m < length pasts → slice_get program.memories m ≡ Some memory
+    → slice_get pasts m ≡ Some past
     → ((j : ℕ) → m ≤ j → slice_get pasts j ≡ slice_get old j) → AreMoved program t row old m pasts → AreMoved program t row old (suc m) (set pasts m (after memory t row past))
 moved_more program t row old pasts m memory past inside here is later done j one other below at from = go (eq-or-lt_of_le (le_of_suc-le-suc below))
   where

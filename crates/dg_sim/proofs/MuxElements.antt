@@ -34,12 +34,17 @@ module _ (diagram : Diagram) (is : IsChecked diagram) (block : ℕ) where
       go None e = omega arith
       go (Some edge) e = at (slice_get diagram.blocks edge.from) refl (find_holds (Joins diagram.blocks) (enters block port) diagram.edges edge is.wired.edges e).source
         where
-          at : (o : Option Block) → slice_get diagram.blocks edge.from ≡ o → MatchOption o ⊥ (λ b. (1 ≤ edge.from_port) × (edge.from_port ≤ b.outputs)) → (attributes_of diagram).width_at edge.from edge.from_port ≤ 1024
+          at : (o : Option Block) → slice_get diagram.blocks edge.from ≡ o
+              → MatchOption o ⊥ (λ b. (1 ≤ edge.from_port) × (edge.from_port ≤ b.outputs))
+              → (attributes_of diagram).width_at edge.from edge.from_port ≤ 1024
           at None there h = absurd h
           at (Some b) there h = (is.dimensions.blocks edge.from b there).within (omega (arith, h.0, h.1)) (edge.from_port - 1) 0 (source_there diagram is block port edge e).1
 
   module _ (b : Block) (port element : ℕ) (shown : IsShown diagram (attributes_of diagram) block b port element) where
-    at_kind : (kind : Kind) → b.kind ≡ kind → (port ≤ shown_ports kind b.outputs) × (element < shown_width diagram (attributes_of diagram) kind block port) × HasWidths diagram (attributes_of diagram) block kind b.inputs b.outputs
+    at_kind : (kind : Kind) → b.kind ≡ kind
+        → (port ≤ shown_ports kind b.outputs)
+        × (element < shown_width diagram (attributes_of diagram) kind block port)
+        × HasWidths diagram (attributes_of diagram) block kind b.inputs b.outputs
     at_kind kind e = (
       subst (λ (kind : Kind). port ≤ shown_ports kind b.outputs) e shown.port_to,
       subst (λ (kind : Kind). element < shown_width diagram (attributes_of diagram) kind block port) e shown.element_below,
@@ -70,7 +75,9 @@ module _ (diagram : Diagram) (is : IsChecked diagram) (block : ℕ) where
         let to = k.0 in
         let below = k.1 in
         let widths = k.2 in
-        let same : (attributes_of diagram).width_at block (1 + (port - 1)) ≡ (attributes_of diagram).width_at block port = let p : 1 + (port - 1) ≡ port = omega (arith, shown.port_from) in ap ((attributes_of diagram).width_at block) p in
+        let same : (attributes_of diagram).width_at block (1 + (port - 1))
+        ≡ (attributes_of diagram).width_at block port = let p : 1 + (port - 1) ≡ port =
+        omega (arith, shown.port_from) in ap ((attributes_of diagram).width_at block) p in
         omega (arith, same, widths, below, sum_before ((attributes_of diagram).width_at block) 1 b.outputs (port - 1) (omega (arith, to, shown.port_from)))
 
     pub demux_read : (sizes : List ℕ) (at : ℕ) → b.kind ≡ Demux sizes → at ≡ place → IsRead diagram (attributes_of diagram) block 1 at

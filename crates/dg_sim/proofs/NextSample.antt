@@ -47,26 +47,57 @@ module _ (checked : CheckedDiagram) (program : Program) (t : ℕ) (row later_row
             let same : is.0 ≡ b = same_Some is.0 b (sym is.1.block_is ∙ block_is) in
             let old : r.0.values ≡ kept_values checked.diagram (attributes_of checked.diagram) table memory.place.block b.enable b.kind memory.place.element t =
             ap values_of (sym r.1) ∙ at.stands.kept m memory b here block_is in
-            let move : move_of (is_hit memory.period t) (is_on (value_at later_row) memory.control) memory.reset ≡ move_at checked.diagram (attributes_of checked.diagram) table memory.place.block b.enable b.kind t =
+            let move : move_of (is_hit memory.period t) (is_on (value_at later_row) memory.control) memory.reset
+            ≡ move_at checked.diagram
+            (attributes_of checked.diagram) table memory.place.block b.enable b.kind t =
             is.1.moves table t (value_at later_row) agree ∙ ap (λ (b : Block). move_at checked.diagram (attributes_of checked.diagram) table memory.place.block b.enable b.kind t) same in
             ap values_of (each m memory r.0 here r.1)
             ∙ ap (λ (o : Move). moved o r.0.room (value_at later_row memory.from) r.0.values) move
             ∙ ap (λ (room : ℕ). moved (move_at checked.diagram (attributes_of checked.diagram) table memory.place.block b.enable b.kind t) room (value_at later_row memory.from) r.0.values) r.2
-            ∙ ap (λ (v : ℤ). moved (move_at checked.diagram (attributes_of checked.diagram) table memory.place.block b.enable b.kind t) (kept_count b.kind) v r.0.values) (is.1.from table t (value_at later_row) agree)
-            ∙ ap (λ (kept : List ℤ). moved (move_at checked.diagram (attributes_of checked.diagram) table memory.place.block b.enable b.kind t) (kept_count b.kind) (value_into checked.diagram (attributes_of checked.diagram) table memory.place.block 1 memory.place.element t) kept) old
+            ∙ ap (λ (v : ℤ). moved (move_at checked.diagram
+            (attributes_of checked.diagram) table memory.place.block b.enable b.kind t)
+            (kept_count b.kind) v r.0.values) (is.1.from table t (value_at later_row) agree)
+            ∙ ap (λ (kept : List ℤ). moved (move_at checked.diagram
+            (attributes_of checked.diagram) table memory.place.block b.enable b.kind t) (kept_count b.kind)
+            (value_into checked.diagram (attributes_of checked.diagram) table memory.place.block 1
+            memory.place.element t) kept) old
             ∙ sym (moves checked.diagram (attributes_of checked.diagram) table memory.place.block b.enable b.kind memory.place.element t)
 
-        shows : (stimulus : Stimulus) (n : ℕ) (table : Table) → IsAt checked (record { program = program; samples = t; row = row; pasts = pasts; prepared = prepared }) numbers stimulus n table → Shows checked table t out
+        shows : (stimulus : Stimulus) (n : ℕ) (table : Table)
+            → IsAt checked (record {
+              program = program;
+              samples = t;
+              row = row;
+              pasts = pasts;
+              prepared =
+                  prepared;
+            }) numbers stimulus n table → Shows checked table t out
         shows stimulus n table at place e here =
             let s = is_sim.program.shows place e here in
             let agree : value_at later_row s.0 ≡ entry table (record { block = e.block; port = 1; element = e.element }) t =
-            agrees stimulus n table at s.0 (record { block = e.block; port = 1; element = e.element }) (slice_get_within program.places s.0 (record { block = e.block; port = 1; element = e.element }) s.2) s.2 in
+            agrees stimulus n table at s.0 (record { block = e.block; port = 1; element = e.element })
+            (slice_get_within program.places s.0
+            (record { block = e.block; port = 1; element = e.element }) s.2) s.2 in
             ap (λ (out : List ℤ). value_at out place) out_is
             ∙ get_or_from_slice_get (map (value_at later_row) program.outputs) place (value_at later_row s.0) (pos 0) (there_map (value_at later_row) program.outputs place s.0 s.1)
             ∙ agree
 
         pub is_stepped : (samples : ℕ) → samples ≡ suc t
-            → IsStepped checked (record { program = program; samples = t; row = row; pasts = pasts; prepared = prepared }) (record { program = program; samples = samples; row = later_row; pasts = later; prepared = prepared }) numbers out
+            → IsStepped checked (record {
+              program = program;
+              samples = t;
+              row = row;
+              pasts = pasts;
+              prepared =
+                  prepared;
+            }) (record {
+              program = program;
+              samples = samples;
+              row = later_row;
+              pasts =
+                  later;
+              prepared = prepared;
+            }) numbers out
         is_stepped samples next stimulus n table at = (
           record {
             samples = next;

@@ -34,10 +34,15 @@ module _ (diagram : Diagram) (attributes : Attributes) (old : Program) (k : ℕ)
     abbrev work : Work
     work = record { op = op; first = first; count = b.inputs; first_sign = first_sign; signs = signs; result = result; rounding = b.rounding; saturate = b.saturate }
 
-    pub works_made : IsElementwise diagram attributes b place → AreEntries diagram attributes old.places → IsOpOf b.kind place.element (attributes.param_at place.block) (type_into diagram attributes place.block 2) op
+    pub works_made : IsElementwise diagram attributes b place → AreEntries diagram attributes old.places
+        → IsOpOf b.kind place.element (attributes.param_at place.block)
+        (type_into diagram attributes place.block 2) op
         → CanPrepare (operation_of_block diagram attributes old k place b op) → b.inputs ≤ 32 → result ≡ attributes.type_at place.block 1
         → first ≡ length old.args → first ≡ length old.types → first_sign ≡ length old.signs → signs ≡ length negative → negative ≡ signs_of b.kind
-        → length numbers ≡ b.inputs → args ≡ old.args ++ numbers → AreRead diagram attributes old.places place.block place.element k numbers → types ≡ old.types ++ types_into diagram attributes place.block b.inputs → all_signs ≡ old.signs ++ negative
+        → length numbers ≡ b.inputs → args ≡ old.args ++ numbers
+        → AreRead diagram attributes old.places place.block place.element k numbers
+        → types ≡ old.types ++ types_into diagram attributes place.block b.inputs
+        → all_signs ≡ old.signs ++ negative
         → IsMade diagram attributes old new k place (Works work)
     works_made elementwise entries is_op prepared few result_is first_is first_type sign_is signs_are negative_is size args_is are types_is all_is = record {
       grows = record {
@@ -56,12 +61,14 @@ module _ (diagram : Diagram) (attributes : Attributes) (old : Program) (k : ℕ)
       made = work_rule diagram attributes new k place b op work numbers is_op elementwise same
           (part_there old.args numbers args first b.inputs args_is first_is (sym size)) size are prepared entries few
           (end_there old.args numbers args first b.inputs args_is first_is (sym size))
-          (end_there old.types (types_into diagram attributes place.block b.inputs) types first b.inputs types_is first_type (sym (length_mapped (type_into diagram attributes place.block) 1 b.inputs)))
+          (end_there old.types (types_into diagram attributes place.block b.inputs) types first b.inputs types_is
+          first_type (sym (length_mapped (type_into diagram attributes place.block) 1 b.inputs)))
           (end_there old.signs negative all_signs first_sign signs all_is sign_is signs_are);
     }
       where
         same_types : part types first b.inputs ≡ types_into diagram attributes place.block b.inputs
-        same_types = part_there old.types (types_into diagram attributes place.block b.inputs) types first b.inputs types_is first_type (sym (length_mapped (type_into diagram attributes place.block) 1 b.inputs))
+        same_types = part_there old.types (types_into diagram attributes place.block b.inputs) types first b.inputs
+            types_is first_type (sym (length_mapped (type_into diagram attributes place.block) 1 b.inputs))
 
         same_signs : part all_signs first_sign signs ≡ signs_of b.kind
         same_signs = part_there old.signs negative all_signs first_sign signs all_is sign_is signs_are ∙ negative_is
@@ -69,4 +76,13 @@ module _ (diagram : Diagram) (attributes : Attributes) (old : Program) (k : ℕ)
         same : operation_at new work ≡ operation_of_block diagram attributes new k place b op
         same =
             ap₂ (λ (signs : List Bool) (types : List FxType). record { op = op; signs = signs; types = types; result = result; rounding = b.rounding; saturate = b.saturate }) same_signs same_types
-            ∙ ap (λ (type : FxType). record { op = op; signs = signs_of b.kind; types = types_into diagram attributes place.block b.inputs; result = type; rounding = b.rounding; saturate = b.saturate }) result_is
+            ∙ ap (λ (type : FxType). record {
+              op = op;
+              signs = signs_of b.kind;
+              types =
+                  types_into diagram attributes place.block b.inputs;
+              result =
+                  type;
+              rounding = b.rounding;
+              saturate = b.saturate;
+            }) result_is

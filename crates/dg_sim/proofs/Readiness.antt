@@ -12,14 +12,20 @@ use Rattle.dg_sim.specs.Ready.{IsReadyFor, AreReady}
 use Rattle.dg_sim.specs.Sim.{IsProgram}
 use Rattle.math_list.proofs.Places.{push_cases, get_some}
 
-pub can_some : (diagram : Diagram) (attributes : Attributes) (program : Program) (k : ℕ) (cell : Cell) → IsProgram diagram attributes program → slice_get program.cells k ≡ Some cell → CanGive program (λ j. pos 0) cell.rule
+pub can_some : (diagram : Diagram) (attributes : Attributes) (program : Program) (k : ℕ) (cell : Cell)
+    → IsProgram diagram attributes program → slice_get program.cells k ≡ Some cell
+    → CanGive program (λ j. pos 0) cell.rule
 can_some diagram attributes program k cell is here =
     let below : k < _ = subst (λ (n : ℕ). k < n) is.size (slice_get_within program.cells k cell here) in
     let place = get_some program.places k below in
-    (is.cells k place.0 cell place.1 here).can (λ block port element t. pos 0) 0 (λ j. pos 0) (λ j place below at. refl) (λ block b port element t shown below. InRange-zero (attributes.type_at block port))
+    (is.cells k place.0 cell place.1 here).can (λ block port element t. pos 0) 0 (λ j. pos 0)
+    (λ j place below at. refl)
+    (λ block b port element t shown below. InRange-zero (attributes.type_at block port))
 
 -- one more cell is prepared for
-pub ready_more : (program : Program) (prepared later : List Prepared) (one : Prepared) (n : ℕ) (cell : Cell) → slice_get program.cells n ≡ Some cell → AreReady program prepared n → IsReadyFor program one cell.rule → later ≡ prepared ++ one ∷ [] → AreReady program later (n + 1)
+pub ready_more : (program : Program) (prepared later : List Prepared) (one : Prepared) (n : ℕ) (cell : Cell)
+    → slice_get program.cells n ≡ Some cell → AreReady program prepared n → IsReadyFor program one cell.rule
+    → later ≡ prepared ++ one ∷ [] → AreReady program later (n + 1)
 ready_more program prepared later one n cell here are is e =
     subst (λ (xs : List Prepared). AreReady program xs (n + 1)) (sym e) (record {
       size = let size = length-append prepared (one ∷ []) in omega (arith, size, are.size);

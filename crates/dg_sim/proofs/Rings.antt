@@ -1,5 +1,6 @@
 -- A push into a ring puts a value before what it keeps.
-use Rattle.std.proofs.Common.{◌≡◌, ℕ, zero, suc, ◌+◌, ◌-◌, ◌<◌, ◌≤◌, ◌⊎◌, inl, inr, Bool, cond, ℤ, pos, Some, None, slice_get, List, ◌∷◌, map, length, take, get_or, set, length-set, get_or-set_same, get_or-set_other, ap, ap₂, sym, ◌∙◌, refl, arith, lt-ltb, le-ltb, add-one}
+use Rattle.std.proofs.Common.{◌≡◌, ℕ, zero, suc, ◌+◌, ◌-◌, ◌<◌, ◌≤◌, ◌⊎◌, inl, inr, Bool, cond, ℤ, pos, Some, None, slice_get, List, ◌∷◌, map, length, take, get_or, set, length-set, get_or-set_same}
+use Rattle.std.proofs.Common.{get_or-set_other, ap, ap₂, sym, ◌∙◌, refl, arith, lt-ltb, le-ltb, add-one}
 use Rattle.std.proofs.lemmas.Bool.{cases_lt}
 use Rattle.math_list.proofs.Numbers.{mapped_at}
 use Rattle.math_list.specs.Numbers.{numbers_from}
@@ -62,12 +63,16 @@ module _ (values : List ℤ) (v : ℤ) (head before filled : ℕ) (below : head 
 
   newest : new 0 ≡ v
   unfolding new
-  newest = ap (λ (n : ℕ). get_or (set values before v) (place n before 0) (pos 0)) (length-set values before v) ∙ ap (λ (i : ℕ). get_or (set values before v) i (pos 0)) at_start ∙ get_or-set_same values before v (pos 0) before_below
+  newest = ap (λ (n : ℕ). get_or (set values before v) (place n before 0) (pos 0)) (length-set values before v)
+      ∙ ap (λ (i : ℕ). get_or (set values before v) i (pos 0)) at_start
+      ∙ get_or-set_same values before v (pos 0) before_below
     where
       at_start : place (length values) before 0 ≡ before
       at_start = go (place_cases (length values) before 0)
         where
-          go : ((before + 0 < length values) × (place (length values) before 0 ≡ before + 0)) ⊎ ((length values ≤ before + 0) × (place (length values) before 0 ≡ before + 0 - length values)) → place (length values) before 0 ≡ before
+          go : ((before + 0 < length values) × (place (length values) before 0 ≡ before + 0))
+              ⊎ ((length values ≤ before + 0) × (place (length values) before 0 ≡ before + 0 - length values))
+              → place (length values) before 0 ≡ before
           go (inl a) = omega (arith, a.1)
           go (inr a) = absurd (omega (arith, a.0, before_below))
 
@@ -98,7 +103,10 @@ module _ (values : List ℤ) (v : ℤ) (head before filled : ℕ) (below : head 
       go (suc j) e = ap₂ (λ (x : ℤ) (xs : List ℤ). x ∷ xs) newest
           (map_shifted new old 0 j (λ p l. older p (omega (arith, l, e))) ∙ sym (take_numbers old 0 j filled (omega (arith, e, h))))
 
-  pub pushed : (more : ℕ) → ((filled < length values) × (more ≡ filled + 1)) ⊎ ((length values ≤ filled) × (more ≡ length values)) → ring_values (set values before v) before more ≡ take (length values) (v ∷ ring_values values head filled)
+  pub pushed : (more : ℕ) → ((filled < length values) × (more ≡ filled + 1))
+      ⊎ ((length values ≤ filled) × (more ≡ length values))
+      → ring_values (set values before v) before more
+      ≡ take (length values) (v ∷ ring_values values head filled)
   pushed more (inl e) = ap (λ (n : ℕ). ring_values (set values before v) before n) e.1 ∙ pushed_more e.0
   pushed more (inr e) = ap (λ (n : ℕ). ring_values (set values before v) before n) e.1 ∙ pushed_full e.0
 

@@ -48,6 +48,9 @@ input_there diagram place b wired listed shown number width kind =
     let outputs : b.outputs ≡ 1 = (ports_are diagram wired place.block b shown.block_is (Inport number width) kind).1 in
     let port : place.port ≤ b.outputs = subst (λ (kind : Kind). place.port ≤ shown_ports kind b.outputs) kind shown.port_to in
     let one : place.port ≡ 1 = omega (arith, shown.port_from, port, outputs) in
-    let below : place.element < attributes.width_at place.block place.port = subst (λ (kind : Kind). place.element < shown_width diagram attributes kind place.block place.port) kind shown.element_below in
-    let found = (listed diagram attributes wired).has_each place.block b number place.element shown.block_is own (subst (λ (port : ℕ). place.element < attributes.width_at place.block port) one below) in
+    let below : place.element < attributes.width_at place.block place.port =
+    subst (λ (kind : Kind). place.element < shown_width diagram attributes kind place.block place.port) kind
+    shown.element_below in
+    let found = (listed diagram attributes wired).has_each place.block b number place.element shown.block_is own
+    (subst (λ (port : ℕ). place.element < attributes.width_at place.block port) one below) in
     (found.0, there_map (λ (e : RootElement). root_at e.number e.block e.element) (root_inputs diagram attributes) found.0 _ found.1)

@@ -1,5 +1,6 @@
 -- The elements of root ports stand in order, and where one stands in a list in order.
-use Rattle.std.proofs.Common.{◌≡◌, ℕ, zero, suc, ◌<◌, ◌≤◌, ◌==◌, ◌&&◌, ◌||◌, ◌⊎◌, inl, inr, Bool, true, false, true≢false, List, [], ◌∷◌, ◌++◌, map, Option, Some, None, slice_get, All, refl, sym, ap, subst, subst₂, ◌∙◌, arith}
+use Rattle.std.proofs.Common.{◌≡◌, ℕ, zero, suc, ◌<◌, ◌≤◌, ◌==◌, ◌&&◌, ◌||◌, ◌⊎◌, inl, inr, Bool, true, false, true≢false, List, [], ◌∷◌, ◌++◌, map, Option, Some, None, slice_get, All, refl, sym, ap}
+use Rattle.std.proofs.Common.{subst, subst₂, ◌∙◌, arith}
 use Rattle.std.specs.Prelude.{nat_lt}
 use Rattle.std.specs.List.{flat_map, position}
 use Rattle.std.proofs.lemmas.Bool.{and_parts, and_from, cases_eq, cases_lt, eq-eqb, eqb-true, lt-ltb, le-ltb, ltb-true}
@@ -30,7 +31,9 @@ lower_element root other same less =
 is_lower : (root other : Root) → is_root_before root other ≡ true → (root.number < other.number) ⊎ ((root.number ≡ other.number) × (root.element < other.element))
 is_lower root other is = go (nat_lt root.number other.number) refl is
   where
-    go : (b : Bool) → nat_lt root.number other.number ≡ b → (b || ((root.number == other.number) && nat_lt root.element other.element)) ≡ true → (root.number < other.number) ⊎ ((root.number ≡ other.number) × (root.element < other.element))
+    go : (b : Bool) → nat_lt root.number other.number ≡ b
+        → (b || ((root.number == other.number) && nat_lt root.element other.element)) ≡ true
+        → (root.number < other.number) ⊎ ((root.number ≡ other.number) × (root.element < other.element))
     go true less is = inl (ltb-true root.number other.number less)
     go false less is =
         let parts = and_parts (root.number == other.number) (nat_lt root.element other.element) is in
@@ -39,7 +42,8 @@ is_lower root other is = go (nat_lt root.number other.number) refl is
 one_way : (root other : Root) → is_root_before root other ≡ true → is_root_before other root ≡ true → ⊥
 one_way root other is back = go (is_lower root other is) (is_lower other root back)
   where
-    go : (root.number < other.number) ⊎ ((root.number ≡ other.number) × (root.element < other.element)) → (other.number < root.number) ⊎ ((other.number ≡ root.number) × (other.element < root.element)) → ⊥
+    go : (root.number < other.number) ⊎ ((root.number ≡ other.number) × (root.element < other.element))
+        → (other.number < root.number) ⊎ ((other.number ≡ root.number) × (other.element < root.element)) → ⊥
     go (inl less) (inl more) = absurd (omega (arith, less, more))
     go (inl less) (inr more) = absurd (omega (arith, less, more.0))
     go (inr less) (inl more) = absurd (omega (arith, less.0, more))
@@ -112,13 +116,17 @@ module _ (number_of : Role → Option ℕ) (width_of : ℕ → ℕ) (diagram : D
   part_roots : (number : ℕ) → AreSorted (roots_of (part number)) × All (λ (root : Root). root.number ≡ number) (roots_of (part number))
   part_roots number = go (position (has_number number_of number) diagram.blocks)
     where
-      go : (o : Option ℕ) → AreSorted (roots_of (elements_of_port attributes width_of number o)) × All (λ (root : Root). root.number ≡ number) (roots_of (elements_of_port attributes width_of number o))
+      go : (o : Option ℕ) → AreSorted (roots_of (elements_of_port attributes width_of number o))
+          × All (λ (root : Root). root.number ≡ number) (roots_of (elements_of_port attributes width_of number o))
       go None = ((λ i j d less below. absurd (omega (arith, below))), All-nil (λ (root : Root). root.number ≡ number))
       go (Some block) =
           let same = sym (roots_port attributes number block (width_of block)) in (
             subst AreSorted same (port_sorted number block 0 (width_of block)),
             subst (λ (roots : List Root). All (λ (root : Root). root.number ≡ number) roots) same
-                (All-weaker (λ (root : Root). (root.number ≡ number) × (0 ≤ root.element)) (λ (root : Root). root.number ≡ number) (λ root is. is.0) (map (root_at number block) (numbers_from 0 (width_of block))) (of_port number block 0 (width_of block))),
+                (All-weaker (λ (root : Root). (root.number ≡ number) × (0 ≤ root.element))
+                (λ (root : Root). root.number ≡ number) (λ root is. is.0)
+                (map (root_at number block) (numbers_from 0 (width_of block)))
+                (of_port number block 0 (width_of block))),
           )
 
   joined : (xs ys : List RootElement) → roots_of (xs ++ ys) ≡ roots_of xs ++ roots_of ys
@@ -130,7 +138,9 @@ module _ (number_of : Role → Option ℕ) (width_of : ℕ → ℕ) (diagram : D
       subst (λ (roots : List Root). All (λ (root : Root). from ≤ root.number) roots) (sym (joined (part from) (flat_map part (numbers_from (suc from) n))))
       (All-append (λ (root : Root). from ≤ root.number) (roots_of (part from)) (roots_of (flat_map part (numbers_from (suc from) n)))
       (All-weaker (λ (root : Root). root.number ≡ from) (λ (root : Root). from ≤ root.number) (λ root is. omega (arith, is)) (roots_of (part from)) (part_roots from).1)
-      (All-weaker (λ (root : Root). suc from ≤ root.number) (λ (root : Root). from ≤ root.number) (λ root is. omega (arith, is)) (roots_of (flat_map part (numbers_from (suc from) n))) (later_ports (suc from) n)))
+      (All-weaker (λ (root : Root). suc from ≤ root.number) (λ (root : Root). from ≤ root.number)
+      (λ root is. omega (arith, is)) (roots_of (flat_map part (numbers_from (suc from) n)))
+      (later_ports (suc from) n)))
 
   ports_sorted : (from n : ℕ) → AreSorted (roots_of (flat_map part (numbers_from from n)))
   ports_sorted from zero = λ i j d less below. absurd (omega (arith, below))
@@ -139,7 +149,9 @@ module _ (number_of : Role → Option ℕ) (width_of : ℕ → ℕ) (diagram : D
       subst AreSorted (sym (joined (part from) (flat_map part (numbers_from (suc from) n))))
       (sorted_append (roots_of (part from)) rest (part_roots from).0 (ports_sorted (suc from) n)
       (All-weaker (λ (root : Root). root.number ≡ from) (λ (root : Root). All (λ (other : Root). is_root_before root other ≡ true) rest)
-      (λ root is. All-weaker (λ (other : Root). suc from ≤ other.number) (λ (other : Root). is_root_before root other ≡ true) (λ other more. lower_number root other (omega (arith, is, more))) rest (later_ports (suc from) n))
+      (λ root is. All-weaker (λ (other : Root). suc from ≤ other.number)
+      (λ (other : Root). is_root_before root other ≡ true)
+      (λ other more. lower_number root other (omega (arith, is, more))) rest (later_ports (suc from) n))
       (roots_of (part from)) (part_roots from).1))
 
   pub roots_sorted : AreSorted (roots_of (root_elements number_of width_of diagram attributes))

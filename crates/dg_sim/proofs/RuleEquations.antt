@@ -40,7 +40,9 @@ part_last [] ys = take_all ys
 part_last (x ∷ xs) ys = part_last xs ys
 
 -- entries by place give the values of a block's input ports
-pub values_same : (look : ℕ → ℤ) (f : ℕ → ℤ) (numbers : List ℕ) (n from : ℕ) → length numbers ≡ n → ((i j : ℕ) → slice_get numbers i ≡ Some j → look j ≡ f (from + i)) → map look numbers ≡ map f (numbers_from from n)
+pub values_same : (look : ℕ → ℤ) (f : ℕ → ℤ) (numbers : List ℕ) (n from : ℕ) → length numbers ≡ n
+    → ((i j : ℕ) → slice_get numbers i ≡ Some j → look j ≡ f (from + i))
+    → map look numbers ≡ map f (numbers_from from n)
 values_same look f [] zero from size same = refl
 values_same look f [] (suc n) from size same = absurd (omega (arith, size))
 values_same look f (j ∷ numbers) zero from size same = absurd (omega (arith, size))
@@ -49,7 +51,9 @@ values_same look f (j ∷ numbers) (suc n) from size same =
     ap₂ (λ (x : ℤ) (xs : List ℤ). x ∷ xs) (same 0 j refl ∙ ap f first)
     (values_same look f numbers n (suc from) (omega (arith, size)) (λ i j at. let e : from + suc i ≡ suc from + i = omega arith in same (suc i) j at ∙ ap f e))
 
-pub read_more : (diagram : Diagram) (attributes : Attributes) (places : List Place) (block element k : ℕ) (numbers : List ℕ) (number n : ℕ) → length numbers ≡ n → number < k → Reads diagram attributes places block (suc n) element number
+pub read_more : (diagram : Diagram) (attributes : Attributes) (places : List Place) (block element k : ℕ)
+    (numbers : List ℕ) (number n : ℕ) → length numbers ≡ n → number < k
+    → Reads diagram attributes places block (suc n) element number
     → AreRead diagram attributes places block element k numbers → AreRead diagram attributes places block element k (numbers ++ number ∷ [])
 read_more diagram attributes places block element k numbers number n size below reads are i j at = go (push_cases numbers number i j at)
   where
@@ -61,7 +65,8 @@ read_more diagram attributes places block element k numbers number n size below 
 
 -- ---- what entries give
 module _ (diagram : Diagram) (attributes : Attributes) (program : Program) (k : ℕ) (place : Place) where
-  pub same_rule : (port element j : ℕ) → Reads diagram attributes program.places place.block port element j → j < k → HandsOn diagram attributes place port element → IsRule diagram attributes program k place (Same j)
+  pub same_rule : (port element j : ℕ) → Reads diagram attributes program.places place.block port element j → j < k
+      → HandsOn diagram attributes place port element → IsRule diagram attributes program k place (Same j)
   same_rule port element j reads below hands = record {
     within = tt;
     serves = λ stimulus table t look kept row v agrees keep row_is hit gives.
@@ -73,20 +78,33 @@ module _ (diagram : Diagram) (attributes : Attributes) (program : Program) (k : 
   pub fixed_rule : (v : ℤ) → IsAlways diagram attributes place v → IsRule diagram attributes program k place (Fixed v)
   fixed_rule v is = record {
     within = tt;
-    serves = λ stimulus table t look kept row w agrees keep row_is hit gives. subst (λ (v : ℤ). Equation diagram attributes stimulus table place.block place.port place.element t v) (sym gives) (is stimulus table t);
+    serves = λ stimulus table t look kept row w agrees keep row_is hit gives. subst
+        (λ (v : ℤ). Equation diagram attributes stimulus table place.block place.port place.element t v) (sym gives)
+        (is stimulus table t);
     can = λ table t look agrees in_range. tt;
   }
 
   -- the operation of a block
   abbrev pub operation_of_block : Block → Op → Operation
-  operation_of_block b op = record { op = op; signs = signs_of b.kind; types = types_into diagram attributes place.block b.inputs; result = attributes.type_at place.block 1; rounding = b.rounding; saturate = b.saturate }
+  operation_of_block b op = record {
+    op = op;
+    signs = signs_of b.kind;
+    types =
+        types_into diagram attributes place.block b.inputs;
+    result =
+        attributes.type_at place.block 1;
+    rounding = b.rounding;
+    saturate = b.saturate;
+  }
 
   module _ (b : Block) (op : Op) (work : Work) (numbers : List ℕ)
       (is_op : IsOpOf b.kind place.element (attributes.param_at place.block) (type_into diagram attributes place.block 2) op) (elementwise : IsElementwise diagram attributes b place)
       (same : operation_at program work ≡ operation_of_block b op) (args : part program.args work.first work.count ≡ numbers) (size : length numbers ≡ b.inputs)
       (are : AreRead diagram attributes program.places place.block place.element k numbers)
     where
-      values_are : (table : Table) (t : ℕ) (look : ℕ → ℤ) → Agrees diagram attributes program.places k look table t → looked_at program look work.first work.count ≡ values_into diagram attributes table place.block b.inputs place.element t
+      values_are : (table : Table) (t : ℕ) (look : ℕ → ℤ) → Agrees diagram attributes program.places k look table t
+          → looked_at program look work.first work.count
+          ≡ values_into diagram attributes table place.block b.inputs place.element t
       values_are table t look agrees =
           ap (map look) args
           ∙ values_same look (λ port. value_into diagram attributes table place.block port place.element t) numbers b.inputs 1 size
@@ -127,12 +145,15 @@ module _ (diagram : Diagram) (attributes : Attributes) (program : Program) (k : 
             subst₂ CanCarryOut (sym same) (sym (values_are table t look agrees)) (record {
               prepared = prepared;
               values = record {
-                count = length_mapped (λ port. value_into diagram attributes table place.block port place.element t) 1 b.inputs ∙ sym (length_mapped (type_into diagram attributes place.block) 1 b.inputs);
+                count = length_mapped (λ port. value_into diagram attributes table place.block port place.element t)
+                    1 b.inputs ∙ sym (length_mapped (type_into diagram attributes place.block) 1 b.inputs);
                 in_range = input_in_range table t look agrees in_range;
               };
             })
 
-        pub work_rule : work.count ≤ 32 → work.first + work.count ≤ length program.args → work.first + work.count ≤ length program.types → work.first_sign + work.signs ≤ length program.signs → IsRule diagram attributes program k place (Works work)
+        pub work_rule : work.count ≤ 32 → work.first + work.count ≤ length program.args
+            → work.first + work.count ≤ length program.types → work.first_sign + work.signs ≤ length program.signs
+            → IsRule diagram attributes program k place (Works work)
         work_rule few args_end types_end signs_end = record {
           within = (args_end, types_end, signs_end);
           serves = λ stimulus table t look kept row v agrees keep row_is hit gives. serves_work stimulus table t look v agrees gives;

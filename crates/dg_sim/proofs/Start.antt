@@ -1,5 +1,6 @@
 -- A simulator before its first sample.
-use Rattle.std.proofs.Common.{◌≡◌, ℕ, zero, suc, ◌+◌, ◌<◌, ◌⊎◌, inl, inr, Bool, true, false, ℤ, List, [], ◌∷◌, ◌++◌, length, length-append, map, take, Option, Some, None, slice_get, ap, sym, ◌∙◌, subst, refl, arith}
+use Rattle.std.proofs.Common.{◌≡◌, ℕ, zero, suc, ◌+◌, ◌<◌, ◌⊎◌, inl, inr, Bool, true, false, ℤ, List, [], ◌∷◌, ◌++◌, length, length-append, map, take, Option, Some, None, slice_get, ap, sym, ◌∙◌}
+use Rattle.std.proofs.Common.{subst, refl, arith}
 use Rattle.std.proofs.lemmas.Option.{same_Some, slice_get_within}
 use Rattle.dg_model.specs.declared.diagram.Diagram.{Diagram}
 use Rattle.dg_model.specs.declared.diagram.Block.{Block}
@@ -36,14 +37,17 @@ no_hits diagram attributes table block enable (EnOut reset initial) = refl
 no_hits diagram attributes table block enable _ = refl
 
 -- one more memory has its room
-pub rooms_more : (memories : List Memory) (pasts : List PastValues) (n : ℕ) (memory : Memory) (past : PastValues) → slice_get memories n ≡ Some memory → past ≡ record { room = memory.room; values = [] }
+pub rooms_more : (memories : List Memory) (pasts : List PastValues) (n : ℕ) (memory : Memory) (past : PastValues)
+    → slice_get memories n ≡ Some memory → past ≡ record { room = memory.room; values = [] }
     → AreRooms memories pasts n → AreRooms memories (pasts ++ past ∷ []) (n + 1)
 rooms_more memories pasts n memory past here is rooms = record {
   size = length-append pasts (past ∷ []) ∙ omega (arith, rooms.size);
   each = λ m one other at_memory at_past. go m one other at_memory (push_cases pasts past m other at_past);
 }
   where
-    go : (m : ℕ) (one : Memory) (other : PastValues) → slice_get memories m ≡ Some one → (slice_get pasts m ≡ Some other) ⊎ ((m ≡ length pasts) × (past ≡ other)) → other ≡ record { room = one.room; values = [] }
+    go : (m : ℕ) (one : Memory) (other : PastValues) → slice_get memories m ≡ Some one
+        → (slice_get pasts m ≡ Some other) ⊎ ((m ≡ length pasts) × (past ≡ other))
+        → other ≡ record { room = one.room; values = [] }
     go m one other at_memory (inl old) = rooms.each m one other at_memory old
     go m one other at_memory (inr new) =
         let same : memory ≡ one = same_Some memory one (sym here ∙ ap (slice_get memories) (sym (new.0 ∙ rooms.size)) ∙ at_memory) in
@@ -57,7 +61,8 @@ module _ (checked : CheckedDiagram) (program : Program) (row : List ℤ) (pasts 
         let p = get_some pasts m (subst (λ (n : ℕ). m < n) (sym rooms.size) (slice_get_within program.memories m memory at)) in
         (p.0, p.1, rooms.each m memory p.0 at p.1)
 
-    pub begun_sim : length row ≡ length program.places → AreReady program prepared (length program.cells) → IsSimOf checked (record { program = program; samples = 0; row = row; pasts = pasts; prepared = prepared })
+    pub begun_sim : length row ≡ length program.places → AreReady program prepared (length program.cells)
+        → IsSimOf checked (record { program = program; samples = 0; row = row; pasts = pasts; prepared = prepared })
     begun_sim size ready = record {
       program = is;
       row = size;
@@ -76,5 +81,9 @@ module _ (checked : CheckedDiagram) (program : Program) (row : List ℤ) (pasts 
       kept = λ m memory b at block_is.
           let p = past_of m memory at in
           ap values_of p.1 ∙ ap (λ (q : PastValues). q.values) p.2
-          ∙ sym (ap (λ (hits : List ℕ). take (kept_count b.kind) (map (value_into checked.diagram (attributes_of checked.diagram) table memory.place.block 1 memory.place.element) hits)) (no_hits checked.diagram (attributes_of checked.diagram) table memory.place.block b.enable b.kind) ∙ take_none (kept_count b.kind));
+          ∙ sym (ap (λ (hits : List ℕ). take (kept_count b.kind)
+          (map (value_into checked.diagram (attributes_of checked.diagram) table memory.place.block 1
+          memory.place.element) hits)) (no_hits checked.diagram
+          (attributes_of checked.diagram) table memory.place.block b.enable b.kind)
+          ∙ take_none (kept_count b.kind));
     }

@@ -1,5 +1,6 @@
 -- One cell after another takes the table's entry.
-use Rattle.std.proofs.Common.{◌≡◌, ℕ, zero, suc, ◌<◌, ◌⊎◌, inl, inr, true, false, true≢false, ℤ, pos, List, length, Option, Some, None, slice_get, set, get_or-set_same, get_or-set_other, ap, sym, ◌∙◌, subst, refl, arith, eqb-true, eq-eqb, eq-or-lt_of_le, le_of_suc-le-suc}
+use Rattle.std.proofs.Common.{◌≡◌, ℕ, zero, suc, ◌<◌, ◌⊎◌, inl, inr, true, false, true≢false, ℤ, pos, List, length, Option, Some, None, slice_get, set, get_or-set_same, get_or-set_other, ap, sym, ◌∙◌}
+use Rattle.std.proofs.Common.{subst, refl, arith, eqb-true, eq-eqb, eq-or-lt_of_le, le_of_suc-le-suc}
 use Rattle.std.proofs.lemmas.Option.{same_Some}
 use Rattle.dg_model.specs.Signals.{Stimulus, Table}
 use Rattle.dg_model.specs.Attributes.{attributes_of}
@@ -43,19 +44,28 @@ module _ (checked : CheckedDiagram) (program : Program) (t : ℕ) (pasts : List 
     (one : EntryIsOne) (in_range : SolvedIsInRange) (stay : EntriesStay)
   where
     -- entries up to the sample are in range
-    range_now : (stimulus : Stimulus) (n : ℕ) (table : Table) → IsAt checked (before program t pasts prepared old) numbers stimulus n table → EntriesAreInRange checked.diagram (attributes_of checked.diagram) table (suc t)
+    range_now : (stimulus : Stimulus) (n : ℕ) (table : Table)
+        → IsAt checked (before program t pasts prepared old) numbers stimulus n table
+        → EntriesAreInRange checked.diagram (attributes_of checked.diagram) table (suc t)
     range_now stimulus n table at block b port element s shown below =
         in_range checked.diagram checked.order stimulus n table ordered at.is_stimulus at.solves block b port element s shown (omega (arith, below, at.below))
 
     -- so a rule can be carried out
-    pub can_give : (k : ℕ) (place : Place) (cell : Cell) (row : List ℤ) (stimulus : Stimulus) (n : ℕ) (table : Table) → slice_get program.places k ≡ Some place → slice_get program.cells k ≡ Some cell → IsAt checked (before program t pasts prepared old) numbers stimulus n table
+    pub can_give : (k : ℕ) (place : Place) (cell : Cell) (row : List ℤ) (stimulus : Stimulus) (n : ℕ)
+        (table : Table) → slice_get program.places k ≡ Some place → slice_get program.cells k ≡ Some cell
+        → IsAt checked (before program t pasts prepared old) numbers stimulus n table
         → IsSwept checked program t pasts prepared numbers old k row → CanGive program (value_at row) cell.rule
     can_give k place cell row stimulus n table at_place here at swept =
         (is_program.cells k place cell at_place here).can table t (value_at row) (swept stimulus n table at) (range_now stimulus n table at)
 
     -- what it gives is the entry
-    given_entry : (k : ℕ) (place : Place) (cell : Cell) (row : List ℤ) (v : ℤ) (stimulus : Stimulus) (n : ℕ) (table : Table) → slice_get program.places k ≡ Some place → slice_get program.cells k ≡ Some cell → is_hit cell.period t ≡ true
-        → IsSwept checked program t pasts prepared numbers old k row → Gives program (value_at row) (kept_at pasts) numbers t cell.rule v → IsAt checked (before program t pasts prepared old) numbers stimulus n table → v ≡ entry table place t
+    given_entry : (k : ℕ) (place : Place) (cell : Cell) (row : List ℤ) (v : ℤ) (stimulus : Stimulus) (n : ℕ)
+        (table : Table) → slice_get program.places k ≡ Some place → slice_get program.cells k ≡ Some cell
+        → is_hit cell.period t ≡ true
+        → IsSwept checked program t pasts prepared numbers old k row
+        → Gives program (value_at row) (kept_at pasts) numbers t cell.rule v
+        → IsAt checked (before program t pasts prepared old) numbers stimulus n table
+        → v ≡ entry table place t
     given_entry k place cell row v stimulus n table at_place here hit swept gives at =
         let is = is_program.cells k place cell at_place here in
         let hits : Hits cell.period t = hit_true cell.period t hit in
@@ -64,7 +74,9 @@ module _ (checked : CheckedDiagram) (program : Program) (t : ℕ) (pasts : List 
         (is.serves stimulus table t (value_at row) (kept_at pasts) numbers v (swept stimulus n table at) at.stands.kept at.row_is hits gives)
 
     -- where it doesn't hit, the entry stays
-    stayed_entry : (k : ℕ) (place : Place) (cell : Cell) (stimulus : Stimulus) (n : ℕ) (table : Table) → slice_get program.places k ≡ Some place → slice_get program.cells k ≡ Some cell → is_hit cell.period t ≡ false
+    stayed_entry : (k : ℕ) (place : Place) (cell : Cell) (stimulus : Stimulus) (n : ℕ) (table : Table)
+        → slice_get program.places k ≡ Some place → slice_get program.cells k ≡ Some cell
+        → is_hit cell.period t ≡ false
         → IsAt checked (before program t pasts prepared old) numbers stimulus n table → value_at old k ≡ entry table place t
     stayed_entry k place cell stimulus n table at_place here miss at = go t refl
       where
@@ -79,7 +91,8 @@ module _ (checked : CheckedDiagram) (program : Program) (t : ℕ) (pasts : List 
             ∙ ap (λ (m : ℕ). entry table place m) (sym e)
 
     -- the cells before k + 1 agree
-    more : (k : ℕ) (place : Place) (cell : Cell) (row later : List ℤ) → slice_get program.places k ≡ Some place → slice_get program.cells k ≡ Some cell → IsSwept checked program t pasts prepared numbers old k row
+    more : (k : ℕ) (place : Place) (cell : Cell) (row later : List ℤ) → slice_get program.places k ≡ Some place
+        → slice_get program.cells k ≡ Some cell → IsSwept checked program t pasts prepared numbers old k row
         → ((j : ℕ) → j < k → value_at later j ≡ value_at row j)
         → ((stimulus : Stimulus) (n : ℕ) (table : Table) → IsAt checked (before program t pasts prepared old) numbers stimulus n table → value_at later k ≡ entry table place t)
         → IsSwept checked program t pasts prepared numbers old (suc k) later
@@ -91,13 +104,18 @@ module _ (checked : CheckedDiagram) (program : Program) (t : ℕ) (pasts : List 
             ap (value_at later) e ∙ last stimulus n table at ∙ ap (λ (c : Place). entry table c t) found
         go (inr l) = same j l ∙ swept stimulus n table at j c l at_j
 
-    pub swept_hit : (k : ℕ) (place : Place) (cell : Cell) (row : List ℤ) (v : ℤ) → slice_get program.places k ≡ Some place → slice_get program.cells k ≡ Some cell → k < length row → is_hit cell.period t ≡ true
-        → IsSwept checked program t pasts prepared numbers old k row → Gives program (value_at row) (kept_at pasts) numbers t cell.rule v → IsSwept checked program t pasts prepared numbers old (suc k) (set row k v)
+    pub swept_hit : (k : ℕ) (place : Place) (cell : Cell) (row : List ℤ) (v : ℤ)
+        → slice_get program.places k ≡ Some place → slice_get program.cells k ≡ Some cell → k < length row
+        → is_hit cell.period t ≡ true
+        → IsSwept checked program t pasts prepared numbers old k row
+        → Gives program (value_at row) (kept_at pasts) numbers t cell.rule v
+        → IsSwept checked program t pasts prepared numbers old (suc k) (set row k v)
     swept_hit k place cell row v at_place here inside hit swept gives =
         more k place cell row (set row k v) at_place here swept (λ j l. let apart : j ≡ k → ⊥ = λ e. absurd (omega (arith, e, l)) in get_or-set_other row k j v (pos 0) apart)
         (λ stimulus n table at. get_or-set_same row k v (pos 0) inside ∙ given_entry k place cell row v stimulus n table at_place here hit swept gives at)
 
-    pub swept_miss : (k : ℕ) (place : Place) (cell : Cell) (row : List ℤ) → slice_get program.places k ≡ Some place → slice_get program.cells k ≡ Some cell → is_hit cell.period t ≡ false → value_at row k ≡ value_at old k
+    pub swept_miss : (k : ℕ) (place : Place) (cell : Cell) (row : List ℤ) → slice_get program.places k ≡ Some place
+        → slice_get program.cells k ≡ Some cell → is_hit cell.period t ≡ false → value_at row k ≡ value_at old k
         → IsSwept checked program t pasts prepared numbers old k row → IsSwept checked program t pasts prepared numbers old (suc k) row
     swept_miss k place cell row at_place here miss same swept =
         more k place cell row row at_place here swept (λ j l. refl) (λ stimulus n table at. same ∙ stayed_entry k place cell stimulus n table at_place here miss at)

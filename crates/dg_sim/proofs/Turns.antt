@@ -4,7 +4,8 @@ use Rattle.std.proofs.lemmas.Option.{same_Some}
 use Rattle.dg_model.specs.declared.diagram.Diagram.{Diagram}
 use Rattle.dg_model.specs.declared.diagram.Block.{Block}
 use Rattle.dg_model.specs.declared.kind.Kind.{Kind}
-use Rattle.dg_model.specs.declared.kind.Kind.TheVariants.{Inport, Outport, Constant, Ground, Sum, Gain, Product, Switch, Relational, Logic, Convert, Delay, Mux, Demux, RateTransition, Pass, EnableTest, EnOut, Terminator}
+use Rattle.dg_model.specs.declared.kind.Kind.TheVariants.{Inport, Outport, Constant, Ground, Sum, Gain, Product, Switch, Relational, Logic, Convert, Delay, Mux, Demux, RateTransition, Pass}
+use Rattle.dg_model.specs.declared.kind.Kind.TheVariants.{EnableTest, EnOut, Terminator}
 use Rattle.dg_model.specs.declared.kind.Gate.{Gate}
 use Rattle.dg_model.specs.declared.kind.Gate.TheVariants.{And, Or, Nand, Nor, Xor, Nxor, Not}
 use Rattle.dg_model.specs.declared.op.Op.{Op}
@@ -39,7 +40,9 @@ module _ (diagram : Diagram) (attributes : Attributes) (block port element : ℕ
 
 -- ---- the entry whose rule is to be made
 module _ (checked : CheckedDiagram) (starts : Starts) (places : List Place) (k : ℕ) (place : Place) (b : Block) where
-  pub turn_of : IsOrdered checked.diagram checked.order → Finds checked starts places → slice_get places k ≡ Some place → IsEntry checked.diagram (attributes_of checked.diagram) place → slice_get checked.diagram.blocks place.block ≡ Some b → IsTurn checked starts places k place b
+  pub turn_of : IsOrdered checked.diagram checked.order → Finds checked starts places
+      → slice_get places k ≡ Some place → IsEntry checked.diagram (attributes_of checked.diagram) place
+      → slice_get checked.diagram.blocks place.block ≡ Some b → IsTurn checked starts places k place b
   turn_of rules finds at entry block_is =
       let one : entry.0 ≡ b = same_Some entry.0 b (sym entry.1.block_is ∙ block_is) in
       record { rules = rules; finds = finds; at = at; shown = subst (λ (x : Block). IsShown checked.diagram (attributes_of checked.diagram) place.block x place.port place.element) one entry.1 }
@@ -48,7 +51,9 @@ module _ (checked : CheckedDiagram) (starts : Starts) (places : List Place) (k :
     pub turn_now : reads_now checked.diagram (attributes_of checked.diagram) place.block kind ≡ true → ReadsNow checked places k place.block
     turn_now now = (place, b, turn.at, refl, turn.shown.block_is, subst (λ (kind : Kind). reads_now checked.diagram (attributes_of checked.diagram) place.block kind ≡ true) (sym kind_is) now)
 
-    pub turn_read : IsChecked checked.diagram → (row_of kind).signal.shape ≡ Shape.Elementwise → (input : ℕ) → 1 ≤ input → input ≤ b.inputs → IsRead checked.diagram (attributes_of checked.diagram) place.block input place.element
+    pub turn_read : IsChecked checked.diagram → (row_of kind).signal.shape ≡ Shape.Elementwise → (input : ℕ)
+        → 1 ≤ input → input ≤ b.inputs
+        → IsRead checked.diagram (attributes_of checked.diagram) place.block input place.element
     turn_read is elementwise =
         let shape : (row_of b.kind).signal.shape ≡ Shape.Elementwise = ap (λ (kind : Kind). (row_of kind).signal.shape) kind_is ∙ elementwise in
         elements_read checked.diagram (attributes_of checked.diagram) place.block b.inputs b.outputs b.kind place.port place.element turn.shown.port_from turn.shown.port_to turn.shown.element_below
@@ -106,28 +111,39 @@ module _ (checked : CheckedDiagram) (starts : Starts) (places : List Place) (k :
     readable is = is_readable checked.diagram (attributes_of checked.diagram) is.wired place.block b turn.shown.block_is
 
     -- the one input of a Delay, of a rate transition and of an output port of an enabled subsystem
-    one_read : IsChecked checked.diagram → (kind : Kind) → b.kind ≡ kind → (row_of kind).signal.shape ≡ Shape.Elementwise → (HasPorts kind b.inputs b.outputs → b.inputs ≡ 1) → IsRead checked.diagram (attributes_of checked.diagram) place.block 1 place.element
+    one_read : IsChecked checked.diagram → (kind : Kind) → b.kind ≡ kind
+        → (row_of kind).signal.shape ≡ Shape.Elementwise → (HasPorts kind b.inputs b.outputs → b.inputs ≡ 1)
+        → IsRead checked.diagram (attributes_of checked.diagram) place.block 1 place.element
     one_read is kind kind_is elementwise single =
         let one : b.inputs ≡ 1 = single (subst (λ (kind : Kind). HasPorts kind b.inputs b.outputs) kind_is (readable is).ports) in
         turn_read turn kind kind_is is elementwise 1 (omega arith) (omega (arith, one))
 
-    pub delay_reads : IsChecked checked.diagram → (length : ℕ) (initial : List Decimal) (reset : Bool) → b.kind ≡ Delay length initial reset → IsRead checked.diagram (attributes_of checked.diagram) place.block 1 place.element
+    pub delay_reads : IsChecked checked.diagram → (length : ℕ) (initial : List Decimal) (reset : Bool)
+        → b.kind ≡ Delay length initial reset
+        → IsRead checked.diagram (attributes_of checked.diagram) place.block 1 place.element
     delay_reads is length initial reset e = one_read is (Delay length initial reset) e refl (λ ports. ports.0)
 
-    pub rate_reads : IsChecked checked.diagram → (period : Decimal) (initial : List Decimal) → b.kind ≡ RateTransition period initial → IsRead checked.diagram (attributes_of checked.diagram) place.block 1 place.element
+    pub rate_reads : IsChecked checked.diagram → (period : Decimal) (initial : List Decimal)
+        → b.kind ≡ RateTransition period initial
+        → IsRead checked.diagram (attributes_of checked.diagram) place.block 1 place.element
     rate_reads is period initial e = one_read is (RateTransition period initial) e refl (λ ports. ports.0)
 
-    pub output_reads : IsChecked checked.diagram → (reset : Bool) (initial : List Decimal) → b.kind ≡ EnOut reset initial → IsRead checked.diagram (attributes_of checked.diagram) place.block 1 place.element
+    pub output_reads : IsChecked checked.diagram → (reset : Bool) (initial : List Decimal)
+        → b.kind ≡ EnOut reset initial
+        → IsRead checked.diagram (attributes_of checked.diagram) place.block 1 place.element
     output_reads is reset initial e = one_read is (EnOut reset initial) e refl (λ ports. ports.0)
 
     -- the control of an output port of an enabled subsystem stands before it
-    pub control_before : (cell enable : ℕ) (reset : Bool) (initial : List Decimal) → b.kind ≡ EnOut reset initial → b.enable ≡ Some enable → slice_get places cell ≡ Some (place_at enable 1 0) → cell < k
+    pub control_before : (cell enable : ℕ) (reset : Bool) (initial : List Decimal) → b.kind ≡ EnOut reset initial
+        → b.enable ≡ Some enable → slice_get places cell ≡ Some (place_at enable 1 0) → cell < k
     control_before cell enable reset initial kind_is is there =
         turn.finds.ranked cell k (place_at enable 1 0) place there turn.at
         (control_leads checked.diagram (attributes_of checked.diagram) place.block b enable turn.shown.block_is (ap (λ (kind : Kind). asks_now kind) kind_is) is)
 
     -- a block that works element by element has an operation, and all its inputs are read in the same sample
-    pub op_reads : IsChecked checked.diagram → (param control : FxType) (op : Op) → IsOpOf b.kind place.element param control op → (input : ℕ) → 1 ≤ input → input ≤ b.inputs → IsRead checked.diagram (attributes_of checked.diagram) place.block input place.element
+    pub op_reads : IsChecked checked.diagram → (param control : FxType) (op : Op)
+        → IsOpOf b.kind place.element param control op → (input : ℕ) → 1 ≤ input → input ≤ b.inputs
+        → IsRead checked.diagram (attributes_of checked.diagram) place.block input place.element
     op_reads is param control op is_op = turn_read turn b.kind refl is (op_shape b.kind param control op is_op)
 
     pub op_now : (param control : FxType) (op : Op) → IsOpOf b.kind place.element param control op → ReadsNow checked places k place.block

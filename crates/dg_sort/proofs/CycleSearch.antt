@@ -38,7 +38,9 @@ read_still rows steps step place block read = record { step = read.step; at = ge
 passed_still : (first block source : ℕ) (marks : List Bool) → IsPassed first marks source → IsPassed first (set marks block true) source
 passed_still first block source marks passed = record { met = still_marked marks block source passed.met; other = passed.other }
 
-module _ (rows : List (List ℕ)) (first : ℕ) (steps : List Step) (is_met : List Bool) (at source : ℕ) (are : AreSteps rows first steps is_met) (here : IsReadBy rows steps at source) (unmet : slice_get is_met source ≡ Some false) where
+module _ (rows : List (List ℕ)) (first : ℕ) (steps : List Step) (is_met : List Bool) (at source : ℕ)
+    (are : AreSteps rows first steps is_met) (here : IsReadBy rows steps at source)
+    (unmet : slice_get is_met source ≡ Some false) where
   abbrev new_step : Step
   new_step = record { block = source; next = at }
 
@@ -96,7 +98,9 @@ module _ (rows : List (List ℕ)) (first : ℕ) (steps : List Step) (is_met : Li
 
 -- ---- looking
 
-pub looking_begins : (rows : List (List ℕ)) (first at : ℕ) (step : Step) (steps : List Step) (is_met : List Bool) → AreSteps rows first steps is_met → at < length steps → step ≡ get_or steps at step → AreClosed rows first at steps is_met → IsLooking rows first at step.block steps is_met 0
+pub looking_begins : (rows : List (List ℕ)) (first at : ℕ) (step : Step) (steps : List Step) (is_met : List Bool)
+    → AreSteps rows first steps is_met → at < length steps → step ≡ get_or steps at step
+    → AreClosed rows first at steps is_met → IsLooking rows first at step.block steps is_met 0
 looking_begins rows first at step steps is_met are inside is closed = record {
   steps_are = are;
   step = step;
@@ -106,7 +110,10 @@ looking_begins rows first at step steps is_met are inside is closed = record {
   passed = λ k source below. absurd (omega arith);
 }
 
-pub looking_passes : (rows : List (List ℕ)) (first at block index source : ℕ) (steps : List Step) (is_met : List Bool) → IsLooking rows first at block steps is_met index → slice_get (row_at rows block) index ≡ Some source → (source ≡ first → ⊥) → slice_get is_met source ≡ Some true
+pub looking_passes : (rows : List (List ℕ)) (first at block index source : ℕ) (steps : List Step)
+    (is_met : List Bool) → IsLooking rows first at block steps is_met index
+    → slice_get (row_at rows block) index ≡ Some source → (source ≡ first → ⊥)
+    → slice_get is_met source ≡ Some true
     → IsLooking rows first at block steps is_met (index + 1)
 looking_passes rows first at block index source steps is_met looking there other met = record {
   steps_are = looking.steps_are;
@@ -123,7 +130,10 @@ looking_passes rows first at block index source steps is_met looking there other
       (cases_lt k index);
 }
 
-pub looking_meets : (rows : List (List ℕ)) (first at block index source : ℕ) (steps : List Step) (is_met : List Bool) → IsLooking rows first at block steps is_met index → slice_get (row_at rows block) index ≡ Some source → (source ≡ first → ⊥) → slice_get is_met source ≡ Some false
+pub looking_meets : (rows : List (List ℕ)) (first at block index source : ℕ) (steps : List Step)
+    (is_met : List Bool) → IsLooking rows first at block steps is_met index
+    → slice_get (row_at rows block) index ≡ Some source → (source ≡ first → ⊥)
+    → slice_get is_met source ≡ Some false
     → IsLooking rows first at block (steps ++ record { block = source; next = at } ∷ []) (set is_met source true) (index + 1)
 looking_meets rows first at block index source steps is_met looking there other unmet =
     let here : IsReadBy rows steps at source = record { step = looking.step; at = looking.here; reads = subst (λ b. Reads rows b source) (sym looking.is) (record { place = index; at = there }) } in
@@ -141,7 +151,9 @@ looking_meets rows first at block index source steps is_met looking there other 
       passed = λ k another below is. passed_still first source another is_met (looking.passed k another below is);
     }) there other (set_same is_met source true (slice_get_within is_met source false unmet))
 
-pub looking_finds : (rows : List (List ℕ)) (first at block index source : ℕ) (steps : List Step) (is_met : List Bool) → IsLooking rows first at block steps is_met index → slice_get (row_at rows block) index ≡ Some source → source ≡ first → IsFoundAt rows first steps at
+pub looking_finds : (rows : List (List ℕ)) (first at block index source : ℕ) (steps : List Step)
+    (is_met : List Bool) → IsLooking rows first at block steps is_met index
+    → slice_get (row_at rows block) index ≡ Some source → source ≡ first → IsFoundAt rows first steps at
 looking_finds rows first at block index source steps is_met looking there same = record {
   step = looking.step;
   at = looking.here;
@@ -151,7 +163,9 @@ looking_finds rows first at block index source steps is_met looking there same =
 pub looking_inside : (rows : List (List ℕ)) (first at block index : ℕ) (steps : List Step) (is_met : List Bool) → IsLooking rows first at block steps is_met index → at < length steps
 looking_inside rows first at block index steps is_met looking = slice_get_within steps at looking.step looking.here
 
-pub looking_ends : (rows : List (List ℕ)) (first at block index : ℕ) (steps : List Step) (is_met : List Bool) → IsLooking rows first at block steps is_met index → length (row_at rows block) ≤ index → AreClosed rows first (at + 1) steps is_met
+pub looking_ends : (rows : List (List ℕ)) (first at block index : ℕ) (steps : List Step) (is_met : List Bool)
+    → IsLooking rows first at block steps is_met index → length (row_at rows block) ≤ index
+    → AreClosed rows first (at + 1) steps is_met
 looking_ends rows first at block index steps is_met looking all = record {
   closed = λ k source step below is reads. ⊎_elim
       (λ (less : k < at). looking.closed.closed k source step less is reads)
@@ -166,17 +180,23 @@ looking_ends rows first at block index steps is_met looking all = record {
 
 -- ---- the search ends before its steps do
 
-passed_all : (rows : List (List ℕ)) (first : ℕ) (steps : List Step) (is_met : List Bool) → AreSteps rows first steps is_met → AreClosed rows first (length steps) steps is_met → (block source : ℕ) → slice_get is_met block ≡ Some true → Reads rows block source → IsPassed first is_met source
+passed_all : (rows : List (List ℕ)) (first : ℕ) (steps : List Step) (is_met : List Bool)
+    → AreSteps rows first steps is_met → AreClosed rows first (length steps) steps is_met → (block source : ℕ)
+    → slice_get is_met block ≡ Some true → Reads rows block source → IsPassed first is_met source
 passed_all rows first steps is_met are closed block source met reads =
     let of = are.marked block met in
     closed.closed of.place source of.step (slice_get_within steps of.place of.step of.at) of.at (subst (λ b. Reads rows b source) (sym of.is) reads)
 
-never_back : (rows : List (List ℕ)) (first : ℕ) (steps : List Step) (is_met : List Bool) → AreSteps rows first steps is_met → AreClosed rows first (length steps) steps is_met → (count block : ℕ) → IsPassed first is_met block → LeadsBackIn rows count block first → ⊥
+never_back : (rows : List (List ℕ)) (first : ℕ) (steps : List Step) (is_met : List Bool)
+    → AreSteps rows first steps is_met → AreClosed rows first (length steps) steps is_met → (count block : ℕ)
+    → IsPassed first is_met block → LeadsBackIn rows count block first → ⊥
 never_back rows first steps is_met are closed zero block passed way = passed.other way
 never_back rows first steps is_met are closed (suc count) block passed way =
     never_back rows first steps is_met are closed count (way.0) (passed_all rows first steps is_met are closed block (way.0) passed.met (way.1)) (way.2)
 
-pub more_steps_left : (rows : List (List ℕ)) (first at : ℕ) (steps : List Step) (is_met : List Bool) → AreSteps rows first steps is_met → IsOnCycle rows first → at < length steps → AreClosed rows first (at + 1) steps is_met → at + 1 < length steps
+pub more_steps_left : (rows : List (List ℕ)) (first at : ℕ) (steps : List Step) (is_met : List Bool)
+    → AreSteps rows first steps is_met → IsOnCycle rows first → at < length steps
+    → AreClosed rows first (at + 1) steps is_met → at + 1 < length steps
 more_steps_left rows first at steps is_met are on inside closed = ⊎_elim
     (λ (less : at + 1 < length steps). less)
     (λ (more : length steps ≤ at + 1).
@@ -190,10 +210,15 @@ more_steps_left rows first at steps is_met are on inside closed = ⊎_elim
 pub few_steps : (rows : List (List ℕ)) (first : ℕ) (steps : List Step) (is_met : List Bool) → AreSteps rows first steps is_met → length steps ≤ length rows
 few_steps rows first steps is_met are = let most = count_most is_met in let count = are.count in let size = are.size in omega (arith, most, count, size)
 
-pub steps_begin : (rows : List (List ℕ)) (first : ℕ) (marks : List Bool) → first < length rows → marks ≡ replicate (length rows) false → AreSteps rows first (record { block = first; next = 0 } ∷ []) (set marks first true)
+pub steps_begin : (rows : List (List ℕ)) (first : ℕ) (marks : List Bool) → first < length rows
+    → marks ≡ replicate (length rows) false
+    → AreSteps rows first (record { block = first; next = 0 } ∷ []) (set marks first true)
 steps_begin rows first marks inside are =
     let size : length marks ≡ length rows = ap length are ∙ length-replicate (length rows) false in
-    let unmet : slice_get marks first ≡ Some false = slice_get-get_or marks first false (omega (arith, size, inside)) ∙ ap (λ ms. Some (get_or ms first false)) are ∙ ap Some (get_or-replicate (length rows) first false false inside) in
+    let unmet : slice_get marks first ≡ Some false =
+    slice_get-get_or marks first false (omega (arith, size, inside))
+    ∙ ap (λ ms. Some (get_or ms first false)) are
+    ∙ ap Some (get_or-replicate (length rows) first false false inside) in
     record {
       met = record {
         begins = λ step at. ap (λ (s : Step). s.block) (sym (same_Some (record { block = first; next = 0 }) step at));
@@ -211,7 +236,9 @@ steps_begin rows first marks inside are =
           (λ (differ : first ≡ block → ⊥).
           let old : slice_get marks block ≡ Some true = sym (set_other marks first block true differ) ∙ at in
           let below = slice_get_within marks block true old in
-          let is : slice_get marks block ≡ Some false = slice_get-get_or marks block false below ∙ ap (λ ms. Some (get_or ms block false)) are ∙ ap Some (get_or-replicate (length rows) block false false (omega (arith, below, size))) in
+          let is : slice_get marks block ≡ Some false =
+          slice_get-get_or marks block false below ∙ ap (λ ms. Some (get_or ms block false)) are
+          ∙ ap Some (get_or-replicate (length rows) block false false (omega (arith, below, size))) in
           absurd (true≢false (same_Some true false (sym old ∙ is))))
           (cases_eq first block);
     }
@@ -240,7 +267,9 @@ walk_begins rows first at steps found = record {
       omega (arith, low, high);
 }
 
-pub walk_goes : (rows : List (List ℕ)) (first at : ℕ) (step : Step) (steps : List Step) (cycle : List ℕ) → IsMet rows first steps → IsWalked rows first steps cycle at → 0 < at → step ≡ get_or steps at step → IsWalked rows first steps (cycle ++ step.block ∷ []) step.next
+pub walk_goes : (rows : List (List ℕ)) (first at : ℕ) (step : Step) (steps : List Step) (cycle : List ℕ)
+    → IsMet rows first steps → IsWalked rows first steps cycle at → 0 < at → step ≡ get_or steps at step
+    → IsWalked rows first steps (cycle ++ step.block ∷ []) step.next
 walk_goes rows first at step steps cycle met walked above is =
     let here : slice_get steps at ≡ Some step = slice_get-get_or steps at step walked.inside ∙ ap Some (sym is) in
     let next = met.next at step here above in
@@ -269,7 +298,9 @@ walk_goes rows first at step steps cycle met walked above is =
     long : 0 < length cycle
     long = slice_get_within cycle 0 first walked.begins
 
-    leads : slice_get steps at ≡ Some step → (k block later : ℕ) → slice_get (cycle ++ step.block ∷ []) k ≡ Some block → slice_get (cycle ++ step.block ∷ []) (suc k) ≡ Some later → Reads rows later block
+    leads : slice_get steps at ≡ Some step → (k block later : ℕ)
+        → slice_get (cycle ++ step.block ∷ []) k ≡ Some block
+        → slice_get (cycle ++ step.block ∷ []) (suc k) ≡ Some later → Reads rows later block
     leads here k block later one two = ⊎_elim
         (λ (late : slice_get cycle (suc k) ≡ Some later). ⊎_elim
         (λ (old : slice_get cycle k ≡ Some block). walked.leads k block later old late)
@@ -287,7 +318,9 @@ walk_goes rows first at step steps cycle met walked above is =
         (push_cases cycle step.block k block one))
         (push_cases cycle step.block (suc k) later two)
 
-    last_block : length (cycle ++ step.block ∷ []) ≡ length cycle + length (step.block ∷ []) → (block : ℕ) → slice_get (cycle ++ step.block ∷ []) (length (cycle ++ step.block ∷ []) - 1) ≡ Some block → step.block ≡ block
+    last_block : length (cycle ++ step.block ∷ []) ≡ length cycle + length (step.block ∷ []) → (block : ℕ)
+        → slice_get (cycle ++ step.block ∷ []) (length (cycle ++ step.block ∷ []) - 1) ≡ Some block
+        → step.block ≡ block
     last_block size block last =
         let e : length (cycle ++ step.block ∷ []) - 1 ≡ length cycle = omega (arith, size) in
         same_Some step.block block (sym (last_at cycle step.block) ∙ sym (ap (slice_get (cycle ++ step.block ∷ [])) e) ∙ last)
@@ -305,7 +338,9 @@ walk_goes rows first at step steps cycle met walked above is =
         let far = b.behind in
         omega (arith, e, far)
 
-pub walk_lower : (rows : List (List ℕ)) (first at : ℕ) (step : Step) (steps : List Step) (cycle : List ℕ) → IsMet rows first steps → IsWalked rows first steps cycle at → 0 < at → step ≡ get_or steps at step → step.next < at
+pub walk_lower : (rows : List (List ℕ)) (first at : ℕ) (step : Step) (steps : List Step) (cycle : List ℕ)
+    → IsMet rows first steps → IsWalked rows first steps cycle at → 0 < at → step ≡ get_or steps at step
+    → step.next < at
 walk_lower rows first at step steps cycle met walked above is = (met.next at step (slice_get-get_or steps at step walked.inside ∙ ap Some (sym is)) above).0
 
 pub walk_ends : (rows : List (List ℕ)) (first at : ℕ) (steps : List Step) (cycle : List ℕ) → IsMet rows first steps → IsWalked rows first steps cycle at → at ≤ 0 → IsReadCycle rows first cycle
@@ -321,7 +356,8 @@ walk_ends rows first at steps cycle met walked end = record {
 
 -- ---- as the code has it
 
-pub step_inside : (rows : List (List ℕ)) (first at : ℕ) (step : Step) (steps : List Step) (is_met : List Bool) → AreSteps rows first steps is_met → at < length steps → step ≡ get_or steps at step → step.block < length rows
+pub step_inside : (rows : List (List ℕ)) (first at : ℕ) (step : Step) (steps : List Step) (is_met : List Bool)
+    → AreSteps rows first steps is_met → at < length steps → step ≡ get_or steps at step → step.block < length rows
 step_inside rows first at step steps is_met are inside is =
     let here : slice_get steps at ≡ Some step = slice_get-get_or steps at step inside ∙ ap Some (sym is) in
     let size = are.size in
@@ -334,7 +370,9 @@ row_is rows block row read inside same is = same ∙ is ∙ get_or_default rows 
 pub source_at : (row known : List ℕ) (index : ℕ) → row ≡ known → index < length row → slice_get known index ≡ Some (get_or row index 0)
 source_at row known index same inside = sym (ap (λ r. slice_get r index) same) ∙ slice_get-get_or row index 0 inside
 
-pub looking_there : (rows : List (List ℕ)) (first at block index source : ℕ) (steps : List Step) (is_met : List Bool) → IsLooking rows first at block steps is_met index → AreKnown rows → slice_get (row_at rows block) index ≡ Some source → source < length is_met
+pub looking_there : (rows : List (List ℕ)) (first at block index source : ℕ) (steps : List Step)
+    (is_met : List Bool) → IsLooking rows first at block steps is_met index → AreKnown rows
+    → slice_get (row_at rows block) index ≡ Some source → source < length is_met
 looking_there rows first at block index source steps is_met looking known there =
     let inside = known.there block source (record { place = index; at = there }) in
     let size = looking.steps_are.size in
@@ -343,6 +381,8 @@ looking_there rows first at block index source steps is_met looking known there 
 pub met_at : (marks : List Bool) (source : ℕ) (mark is : Bool) → source < length marks → mark ≡ get_or marks source mark → mark ≡ is → slice_get marks source ≡ Some is
 met_at marks source mark is inside at same = slice_get-get_or marks source mark inside ∙ ap Some (sym at ∙ same)
 
-pub steps_begin_as : (rows : List (List ℕ)) (first : ℕ) (marks : List Bool) (old steps : List Step) → first < length rows → marks ≡ replicate (length rows) false → old ≡ [] → steps ≡ old ++ record { block = first; next = 0 } ∷ [] → AreSteps rows first steps (set marks first true)
+pub steps_begin_as : (rows : List (List ℕ)) (first : ℕ) (marks : List Bool) (old steps : List Step)
+    → first < length rows → marks ≡ replicate (length rows) false → old ≡ []
+    → steps ≡ old ++ record { block = first; next = 0 } ∷ [] → AreSteps rows first steps (set marks first true)
 steps_begin_as rows first marks old steps inside are none pushed =
     subst (λ xs. AreSteps rows first xs (set marks first true)) (sym (pushed ∙ ap (λ xs. xs ++ record { block = first; next = 0 } ∷ []) none)) (steps_begin rows first marks inside are)

@@ -9,7 +9,8 @@ use Rattle.dg_model.specs.declared.diagram.Diagram.{Diagram}
 use Rattle.dg_model.specs.declared.diagram.Block.{Block}
 use Rattle.dg_model.specs.declared.diagram.Edge.{Edge}
 use Rattle.dg_model.specs.declared.kind.Kind.{Kind}
-use Rattle.dg_model.specs.declared.kind.Kind.TheVariants.{Inport, Outport, Constant, Ground, Sum, Gain, Product, Switch, Relational, Logic, Convert, Delay, Mux, Demux, RateTransition, Pass, EnableTest, EnOut, Terminator}
+use Rattle.dg_model.specs.declared.kind.Kind.TheVariants.{Inport, Outport, Constant, Ground, Sum, Gain, Product, Switch, Relational, Logic, Convert, Delay, Mux, Demux, RateTransition, Pass}
+use Rattle.dg_model.specs.declared.kind.Kind.TheVariants.{EnableTest, EnOut, Terminator}
 use Rattle.dg_model.specs.declared.nested.Target.TheVariants.{Enable}
 use Rattle.dg_model.specs.declared.row.Reading.{Reading}
 use Rattle.dg_model.specs.declared.row.Asking.{Asking}
@@ -81,13 +82,19 @@ pub record Noting (diagram : Diagram) (rest : List LatencyEdge) (rows : List (Li
 regrouped : (diagram : Diagram) (edge : LatencyEdge) (rest done : List LatencyEdge) → latency_edges diagram ≡ done ++ (edge ∷ rest) → latency_edges diagram ≡ (done ++ edge ∷ []) ++ rest
 regrouped diagram edge rest done split = split ∙ sym (append_assoc done (edge ∷ []) rest)
 
-leads_at : (diagram : Diagram) (edge : LatencyEdge) (rest done : List LatencyEdge) → latency_edges diagram ≡ done ++ (edge ∷ rest) → is_instant diagram (attributes_of diagram) edge ≡ true → LeadsNow diagram (attributes_of diagram) edge.from edge.to
+leads_at : (diagram : Diagram) (edge : LatencyEdge) (rest done : List LatencyEdge)
+    → latency_edges diagram ≡ done ++ (edge ∷ rest) → is_instant diagram (attributes_of diagram) edge ≡ true
+    → LeadsNow diagram (attributes_of diagram) edge.from edge.to
 leads_at diagram edge rest done split instant =
     let e : length done + 0 ≡ length done = omega arith in
-    let at : slice_get (latency_edges diagram) (length done) ≡ Some edge = ap (λ es. slice_get es (length done)) split ∙ ap (slice_get (done ++ (edge ∷ rest))) (sym e) ∙ get_right done (edge ∷ rest) 0 in
+    let at : slice_get (latency_edges diagram) (length done) ≡ Some edge =
+    ap (λ es. slice_get es (length done)) split ∙ ap (slice_get (done ++ (edge ∷ rest))) (sym e)
+    ∙ get_right done (edge ∷ rest) 0 in
     (length done, edge, slice_get_within (latency_edges diagram) (length done) edge at, get_or_from_slice_get (latency_edges diagram) (length done) edge edge at, (refl, refl, instant))
 
-pub noting_more : (diagram : Diagram) (edge : LatencyEdge) (rest : List LatencyEdge) (rows : List (List ℕ)) → is_instant diagram (attributes_of diagram) edge ≡ true → edge.to < length diagram.blocks → edge.from < length diagram.blocks → Noting diagram (edge ∷ rest) rows
+pub noting_more : (diagram : Diagram) (edge : LatencyEdge) (rest : List LatencyEdge) (rows : List (List ℕ))
+    → is_instant diagram (attributes_of diagram) edge ≡ true → edge.to < length diagram.blocks
+    → edge.from < length diagram.blocks → Noting diagram (edge ∷ rest) rows
     → Noting diagram rest (noted rows edge.to edge.from)
 noting_more diagram edge rest rows instant to from noting =
     let size = noting.size in
@@ -112,7 +119,9 @@ noting_more diagram edge rest rows instant to from noting =
           (push_cases noting.done edge k other at);
     }
 
-pub noting_skips : (diagram : Diagram) (edge : LatencyEdge) (rest : List LatencyEdge) (rows : List (List ℕ)) → is_instant diagram (attributes_of diagram) edge ≡ false → Noting diagram (edge ∷ rest) rows → Noting diagram rest rows
+pub noting_skips : (diagram : Diagram) (edge : LatencyEdge) (rest : List LatencyEdge) (rows : List (List ℕ))
+    → is_instant diagram (attributes_of diagram) edge ≡ false → Noting diagram (edge ∷ rest) rows
+    → Noting diagram rest rows
 noting_skips diagram edge rest rows still noting = record {
   done = noting.done ++ edge ∷ [];
   split = regrouped diagram edge rest noting.done noting.split;
@@ -125,7 +134,8 @@ noting_skips diagram edge rest rows still noting = record {
       (push_cases noting.done edge k other at);
 }
 
-pub noting_begins : (diagram : Diagram) (rows : List (List ℕ)) → rows ≡ replicate (length diagram.blocks) [] → Noting diagram (map signal_edge (drop 0 diagram.edges) ++ enable_edges_from 0 diagram.blocks) rows
+pub noting_begins : (diagram : Diagram) (rows : List (List ℕ)) → rows ≡ replicate (length diagram.blocks) []
+    → Noting diagram (map signal_edge (drop 0 diagram.edges) ++ enable_edges_from 0 diagram.blocks) rows
 noting_begins diagram rows are = record {
   done = [];
   split = refl;
@@ -138,7 +148,8 @@ noting_begins diagram rows are = record {
     empty : (block : ℕ) → row_at rows block ≡ []
     empty block = ap (λ rs. row_at rs block) are ∙ ⊎_elim
         (λ (below : block < length diagram.blocks). get_or-replicate (length diagram.blocks) block [] [] below)
-        (λ (above : length diagram.blocks ≤ block). get_or_past (replicate (length diagram.blocks) []) block [] (let size = length-replicate {A = List ℕ} (length diagram.blocks) [] in omega (arith, size, above)))
+        (λ (above : length diagram.blocks ≤ block). get_or_past (replicate (length diagram.blocks) []) block []
+        (let size = length-replicate {A = List ℕ} (length diagram.blocks) [] in omega (arith, size, above)))
         (cases_lt block (length diagram.blocks))
 
     nothing : (block source : ℕ) → Reads rows block source → ⊥
@@ -214,10 +225,14 @@ find_only p (y ∷ xs) (suc k) x one at passes = ⊎_elim
     (cases_Bool (p y))
 
 -- the driver of a block that joins two periods is the edge's source
-into_is : (diagram : Diagram) (k : ℕ) (edge : Edge) (block : Block) → IsWired diagram → slice_get diagram.edges k ≡ Some edge → slice_get diagram.blocks edge.to ≡ Some block → (row_of block.kind).timing.reads ≡ Reading.BeforeIfSlower
+into_is : (diagram : Diagram) (k : ℕ) (edge : Edge) (block : Block) → IsWired diagram
+    → slice_get diagram.edges k ≡ Some edge → slice_get diagram.blocks edge.to ≡ Some block
+    → (row_of block.kind).timing.reads ≡ Reading.BeforeIfSlower
     → period_into diagram (attributes_of diagram) edge.to 1 ≡ period_at (periods_of diagram) edge.from
 into_is diagram k edge block wired at there reads =
-    let readable = subst (λ (b : Block). (row_of b.kind).ports.inputs b.inputs) (get_or_from_slice_get diagram.blocks edge.to block block there) (wired.blocks edge.to block (slice_get_within diagram.blocks edge.to block there)).ports.0 in
+    let readable = subst (λ (b : Block). (row_of b.kind).ports.inputs b.inputs)
+    (get_or_from_slice_get diagram.blocks edge.to block block there)
+    (wired.blocks edge.to block (slice_get_within diagram.blocks edge.to block there)).ports.0 in
     let one : block.inputs ≡ 1 = one_input block.kind block.inputs reads readable in
     let ports = MatchOption-at_some ⊥ (λ (b : Block). (1 ≤ edge.to_port) × (edge.to_port ≤ b.inputs)) block there (joins diagram k edge wired at).target in
     let low = ports.0 in
@@ -229,32 +244,48 @@ into_is diagram k edge block wired at there reads =
     ap (λ d. at_source d None (λ from from_port. (attributes_of diagram).period_at from)) driver
 
 -- whether a line is instant hangs on its reader and the two periods
-pub line_is : (diagram : Diagram) (k : ℕ) (edge : Edge) → IsWired diagram → slice_get diagram.edges k ≡ Some edge → is_instant diagram (attributes_of diagram) (signal_edge edge) ≡ is_line_instant diagram.blocks (periods_of diagram) edge
+pub line_is : (diagram : Diagram) (k : ℕ) (edge : Edge) → IsWired diagram → slice_get diagram.edges k ≡ Some edge
+    → is_instant diagram (attributes_of diagram) (signal_edge edge)
+    ≡ is_line_instant diagram.blocks (periods_of diagram) edge
 line_is diagram k edge wired at = by_block (slice_get diagram.blocks edge.to) refl
   where
     by_reading : (block : Block) → slice_get diagram.blocks edge.to ≡ Some block → (reads : Reading) → (row_of block.kind).timing.reads ≡ reads →
-        is_now reads (is_slow_to_fast (period_into diagram (attributes_of diagram) edge.to 1) ((attributes_of diagram).period_at edge.to)) ≡ is_now reads (is_slow_to_fast (period_at (periods_of diagram) edge.from) (period_at (periods_of diagram) edge.to))
+        is_now reads (is_slow_to_fast (period_into diagram (attributes_of diagram) edge.to 1)
+        ((attributes_of diagram).period_at edge.to))
+        ≡ is_now reads (is_slow_to_fast (period_at (periods_of diagram) edge.from)
+        (period_at (periods_of diagram) edge.to))
     by_reading block there Reading.Now is = refl
     by_reading block there Reading.Before is = refl
     by_reading block there Reading.BeforeIfSlower is = ap (λ p. not (is_slow_to_fast p (period_at (periods_of diagram) edge.to))) (into_is diagram k edge block wired at there is)
 
-    by_block : (block : Option Block) → slice_get diagram.blocks edge.to ≡ block → takes_now_at diagram (attributes_of diagram) (signal_edge edge) block ≡ is_read_now block (is_slow_to_fast (period_at (periods_of diagram) edge.from) (period_at (periods_of diagram) edge.to))
+    by_block : (block : Option Block) → slice_get diagram.blocks edge.to ≡ block
+        → takes_now_at diagram (attributes_of diagram) (signal_edge edge) block
+        ≡ is_read_now block (is_slow_to_fast (period_at (periods_of diagram) edge.from)
+        (period_at (periods_of diagram) edge.to))
     by_block None there = refl
     by_block (Some block) there = by_reading block there (row_of block.kind).timing.reads refl
 
-pub line_more : (diagram : Diagram) (i : ℕ) (edge : Edge) (tail : List LatencyEdge) (rows : List (List ℕ)) → IsWired diagram → slice_get diagram.edges i ≡ Some edge → is_line_instant diagram.blocks (periods_of diagram) edge ≡ true
+pub line_more : (diagram : Diagram) (i : ℕ) (edge : Edge) (tail : List LatencyEdge) (rows : List (List ℕ))
+    → IsWired diagram → slice_get diagram.edges i ≡ Some edge
+    → is_line_instant diagram.blocks (periods_of diagram) edge ≡ true
     → Noting diagram (map signal_edge (drop i diagram.edges) ++ tail) rows → Noting diagram (map signal_edge (drop (i + 1) diagram.edges) ++ tail) (noted rows edge.to edge.from)
 line_more diagram i edge tail rows wired at now noting =
-    noting_more diagram (signal_edge edge) (map signal_edge (drop (i + 1) diagram.edges) ++ tail) rows (line_is diagram i edge wired at ∙ now) (to_there diagram i edge wired at) (from_there diagram i edge wired at)
+    noting_more diagram (signal_edge edge) (map signal_edge (drop (i + 1) diagram.edges) ++ tail) rows
+    (line_is diagram i edge wired at ∙ now) (to_there diagram i edge wired at)
+    (from_there diagram i edge wired at)
     (subst (λ es. Noting diagram es rows) (lines_from diagram i edge tail at) noting)
 
-pub line_skips : (diagram : Diagram) (i : ℕ) (edge : Edge) (tail : List LatencyEdge) (rows : List (List ℕ)) → IsWired diagram → slice_get diagram.edges i ≡ Some edge → is_line_instant diagram.blocks (periods_of diagram) edge ≡ false
+pub line_skips : (diagram : Diagram) (i : ℕ) (edge : Edge) (tail : List LatencyEdge) (rows : List (List ℕ))
+    → IsWired diagram → slice_get diagram.edges i ≡ Some edge
+    → is_line_instant diagram.blocks (periods_of diagram) edge ≡ false
     → Noting diagram (map signal_edge (drop i diagram.edges) ++ tail) rows → Noting diagram (map signal_edge (drop (i + 1) diagram.edges) ++ tail) rows
 line_skips diagram i edge tail rows wired at still noting =
     noting_skips diagram (signal_edge edge) (map signal_edge (drop (i + 1) diagram.edges) ++ tail) rows (line_is diagram i edge wired at ∙ still)
     (subst (λ es. Noting diagram es rows) (lines_from diagram i edge tail at) noting)
 
-pub lines_end : (diagram : Diagram) (i : ℕ) (tail : List LatencyEdge) (rows : List (List ℕ)) → length diagram.edges ≤ i → Noting diagram (map signal_edge (drop i diagram.edges) ++ tail) rows → Noting diagram tail rows
+pub lines_end : (diagram : Diagram) (i : ℕ) (tail : List LatencyEdge) (rows : List (List ℕ))
+    → length diagram.edges ≤ i → Noting diagram (map signal_edge (drop i diagram.edges) ++ tail) rows
+    → Noting diagram tail rows
 lines_end diagram i tail rows end noting = subst (λ es. Noting diagram es rows) (ap (λ es. map signal_edge es ++ tail) (drop_all i diagram.edges end)) noting
 
 -- ---- controls
@@ -268,7 +299,9 @@ abbrev pub asked : Asking → Option ℕ → Option ℕ
 asked asks enable = cond (is_asked_now asks) enable None
 
 after_control : (diagram : Diagram) (place : ℕ) (block : Block) (rest : List LatencyEdge) (rows : List (List ℕ)) → IsWired diagram → slice_get diagram.blocks place ≡ Some block
-    → (asks : Asking) → (row_of block.kind).timing.asks ≡ asks → (enable : Option ℕ) → block.enable ≡ enable → Noting diagram (enable_edge place (asks_ever asks) enable ++ rest) rows → AfterControl diagram place (asked asks enable) rest rows
+    → (asks : Asking) → (row_of block.kind).timing.asks ≡ asks → (enable : Option ℕ) → block.enable ≡ enable
+    → Noting diagram (enable_edge place (asks_ever asks) enable ++ rest) rows
+    → AfterControl diagram place (asked asks enable) rest rows
 after_control diagram place block rest rows wired there Asking.Never is None enable noting = record { none = λ e. noting; some = λ source e. absurd (none-some source e) }
 after_control diagram place block rest rows wired there Asking.Never is (Some control) enable noting = record { none = λ e. noting; some = λ source e. absurd (none-some source e) }
 after_control diagram place block rest rows wired there Asking.Now is None enable noting = record { none = λ e. noting; some = λ source e. absurd (none-some source e) }
@@ -279,7 +312,9 @@ after_control diagram place block rest rows wired there Asking.Now is (Some cont
       let now : is_instant diagram (attributes_of diagram) (record { from = control; from_port = 1; to = place; target = Enable }) ≡ true =
       ap (takes_now_at diagram (attributes_of diagram) (record { from = control; from_port = 1; to = place; target = Enable })) there ∙ ap is_asked_now is in
       subst (λ s. Noting diagram rest (noted rows place s)) same
-      (noting_more diagram (record { from = control; from_port = 1; to = place; target = Enable }) rest rows now (slice_get_within diagram.blocks place block there) (control_there diagram place control block wired there enable) noting);
+      (noting_more diagram (record { from = control; from_port = 1; to = place; target = Enable }) rest rows now
+      (slice_get_within diagram.blocks place block there)
+      (control_there diagram place control block wired there enable) noting);
 }
 after_control diagram place block rest rows wired there Asking.Before is None enable noting = record { none = λ e. noting; some = λ source e. absurd (none-some source e) }
 after_control diagram place block rest rows wired there Asking.Before is (Some control) enable noting = record {
@@ -290,17 +325,21 @@ after_control diagram place block rest rows wired there Asking.Before is (Some c
   some = λ source e. absurd (none-some source e);
 }
 
-noting_control : (diagram : Diagram) (i : ℕ) (block : Block) (rows : List (List ℕ)) → IsWired diagram → slice_get diagram.blocks i ≡ Some block → Noting diagram (enable_edges_from i (drop i diagram.blocks)) rows
+noting_control : (diagram : Diagram) (i : ℕ) (block : Block) (rows : List (List ℕ)) → IsWired diagram
+    → slice_get diagram.blocks i ≡ Some block → Noting diagram (enable_edges_from i (drop i diagram.blocks)) rows
     → AfterControl diagram i (control_now block) (enable_edges_from (i + 1) (drop (i + 1) diagram.blocks)) rows
 noting_control diagram i block rows wired at noting =
     after_control diagram i block (enable_edges_from (i + 1) (drop (i + 1) diagram.blocks)) rows wired at (row_of block.kind).timing.asks refl block.enable refl
     (subst (λ es. Noting diagram es rows) (controls_from diagram i block at) noting)
 
-pub control_more : (diagram : Diagram) (i source : ℕ) (block : Block) (control : Option ℕ) (rows : List (List ℕ)) → IsWired diagram → slice_get diagram.blocks i ≡ Some block → control ≡ control_now block → control ≡ Some source
+pub control_more : (diagram : Diagram) (i source : ℕ) (block : Block) (control : Option ℕ) (rows : List (List ℕ))
+    → IsWired diagram → slice_get diagram.blocks i ≡ Some block → control ≡ control_now block
+    → control ≡ Some source
     → Noting diagram (enable_edges_from i (drop i diagram.blocks)) rows → Noting diagram (enable_edges_from (i + 1) (drop (i + 1) diagram.blocks)) (noted rows i source)
 control_more diagram i source block control rows wired at gives some noting = (noting_control diagram i block rows wired at noting).some source (sym gives ∙ some)
 
-pub control_skips : (diagram : Diagram) (i : ℕ) (block : Block) (control : Option ℕ) (rows : List (List ℕ)) → IsWired diagram → slice_get diagram.blocks i ≡ Some block → control ≡ control_now block → control ≡ None
+pub control_skips : (diagram : Diagram) (i : ℕ) (block : Block) (control : Option ℕ) (rows : List (List ℕ))
+    → IsWired diagram → slice_get diagram.blocks i ≡ Some block → control ≡ control_now block → control ≡ None
     → Noting diagram (enable_edges_from i (drop i diagram.blocks)) rows → Noting diagram (enable_edges_from (i + 1) (drop (i + 1) diagram.blocks)) rows
 control_skips diagram i block control rows wired at gives none noting = (noting_control diagram i block rows wired at noting).none (sym gives ∙ none)
 
@@ -314,9 +353,12 @@ pub edge_read : (diagram : Diagram) (edges : List Edge) (i : ℕ) (d : Edge) →
 edge_read diagram edges i d same inside = sym (ap (λ es. slice_get es i) same) ∙ slice_get-get_or edges i d inside
 
 -- and a block
-pub block_read : (diagram : Diagram) (blocks : List Block) (i : ℕ) (block : Block) → blocks ≡ diagram.blocks → i < length blocks → block ≡ get_or blocks i block → slice_get diagram.blocks i ≡ Some block
+pub block_read : (diagram : Diagram) (blocks : List Block) (i : ℕ) (block : Block) → blocks ≡ diagram.blocks
+    → i < length blocks → block ≡ get_or blocks i block → slice_get diagram.blocks i ≡ Some block
 block_read diagram blocks i block same inside is = sym (ap (λ bs. slice_get bs i) same) ∙ slice_get-get_or blocks i block inside ∙ ap Some (sym is)
 
-pub instant_as : (diagram : Diagram) (blocks : List Block) (periods : List Period) (edge : Edge) (instant is : Bool) → blocks ≡ diagram.blocks → periods ≡ periods_of diagram → instant ≡ is_line_instant blocks periods edge → instant ≡ is
+pub instant_as : (diagram : Diagram) (blocks : List Block) (periods : List Period) (edge : Edge) (instant is : Bool)
+    → blocks ≡ diagram.blocks → periods ≡ periods_of diagram → instant ≡ is_line_instant blocks periods edge
+    → instant ≡ is
     → is_line_instant diagram.blocks (periods_of diagram) edge ≡ is
 instant_as diagram blocks periods edge instant is same timed gives known = (λ i. is_line_instant (sym same i) (sym timed i) edge) ∙ sym gives ∙ known

@@ -30,7 +30,9 @@ pub record Closes (rows : List (List ℕ)) (held : List ℕ) (groups : List Grou
   pub highest : (k : ℕ) (group : Group) → slice_get groups k ≡ Some group → group.start ≤ top
 
 module _ (rows : List (List ℕ)) (marks : List Mark) (held : List ℕ) (groups joined : List Group) (edges front : List ℕ) (source place : ℕ)
-    (are : AreGroups groups held edges) (reads : AreLooked rows marks held groups edges) (popped : Popped groups edges front source) (join : IsJoined groups joined place) (closes : Closes rows held groups source place)
+    (are : AreGroups groups held edges) (reads : AreLooked rows marks held groups edges)
+    (popped : Popped groups edges front source) (join : IsJoined groups joined place)
+    (closes : Closes rows held groups source place)
     (marked : slice_get marks source ≡ Some (Held place)) where
   size : length (take join.last groups) ≡ join.last
   size = let inside = slice_get_within groups join.last join.group join.there in length-take-le join.last groups (omega (arith, inside))
@@ -65,7 +67,16 @@ module _ (rows : List (List ℕ)) (marks : List Mark) (held : List ℕ) (groups 
           let is : begins.group ≡ join.group = same_Some begins.group join.group (sym begins.there ∙ ap (slice_get groups) same ∙ join.there) in
           record { index = join.last; group = on_cycle join.group; there = joined_at; after = rise; within = subst (λ (g : Group). g.start ≤ at) is begins.within })
           (λ other. ⊎_elim
-          (λ (less : begins.index < join.last). record { index = begins.index; group = begins.group; there = kept_below begins.index begins.group less begins.there; after = begins.after; within = begins.within })
+          (λ (less : begins.index < join.last).
+          record {
+            index = begins.index;
+            group = begins.group;
+            there =
+                kept_below begins.index begins.group less begins.there;
+            after =
+                begins.after;
+            within = begins.within;
+          })
           (λ (more : join.last < begins.index).
           let up = (are.rising join.last begins.index join.group begins.group more join.there begins.there).0 in
           let high = begins.within in
@@ -98,7 +109,8 @@ module _ (rows : List (List ℕ)) (marks : List Mark) (held : List ℕ) (groups 
     single = single_joined;
   }
 
-  looked_joined : (k at block other : ℕ) (group : Group) → slice_get joined k ≡ Some group → group.start ≤ at → slice_get held at ≡ Some block → Reads rows block other → IsLooked marks front group other
+  looked_joined : (k at block other : ℕ) (group : Group) → slice_get joined k ≡ Some group → group.start ≤ at
+      → slice_get held at ≡ Some block → Reads rows block other → IsLooked marks front group other
   looked_joined k at block other group there from here reads_it = ⊎_elim
       (λ old.
       let rise = (under k group old.0 old.1).0 in
@@ -161,7 +173,9 @@ module _ (rows : List (List ℕ)) (marks : List Mark) (held : List ℕ) (groups 
 
   over : (at later block other : ℕ) → slice_get held at ≡ Some block → slice_get held later ≡ Some other → join.group.start ≤ later → LeadsBack rows block other
   over at later block other here there from =
-      ways_join rows block closes.reader other (to_reader at block here) (ways_join rows closes.reader source other (way_reads rows closes.reader source closes.reads) (from_source later other there from))
+      ways_join rows block closes.reader other (to_reader at block here)
+      (ways_join rows closes.reader source other (way_reads rows closes.reader source closes.reads)
+      (from_source later other there from))
 
   -- below the joined group nothing changed
   none_below : (at later : ℕ) → at < join.group.start → NoneBetween joined at later → NoneBetween groups at later
@@ -188,7 +202,8 @@ module _ (rows : List (List ℕ)) (marks : List Mark) (held : List ℕ) (groups 
       (λ (above : join.group.start ≤ at). over at later block other here there (none.begins join.last (on_cycle join.group) joined_at above))
       (cases_lt at join.group.start)
 
-  cycles_joined : (k at block : ℕ) (group : Group) → slice_get joined k ≡ Some group → group.is_cycle ≡ true → group.start ≤ at → slice_get held at ≡ Some block → NoneBetween joined at group.start → IsOnCycle rows block
+  cycles_joined : (k at block : ℕ) (group : Group) → slice_get joined k ≡ Some group → group.is_cycle ≡ true
+      → group.start ≤ at → slice_get held at ≡ Some block → NoneBetween joined at group.start → IsOnCycle rows block
   cycles_joined k at block group there on from here none = ⊎_elim
       (λ (below : at < join.group.start). ⊎_elim
       (λ old. reads.cycles k at block group old.1 on from here (none_below at group.start below none))
@@ -201,7 +216,8 @@ module _ (rows : List (List ℕ)) (marks : List Mark) (held : List ℕ) (groups 
   joined_reads = record { looked = looked_joined; left = left_joined; leads = leads_joined; cycles = cycles_joined }
 
 -- what a search down the groups finds, once the groups above are cut off
-pub joins : (groups cut : List Group) (last place : ℕ) (group other : Group) → cut ≡ take (last + 1) groups → last < length groups → group ≡ get_or groups last group → other ≡ get_or cut last other → group.start ≤ place
+pub joins : (groups cut : List Group) (last place : ℕ) (group other : Group) → cut ≡ take (last + 1) groups
+    → last < length groups → group ≡ get_or groups last group → other ≡ get_or cut last other → group.start ≤ place
     → ((k : ℕ) (g : Group) → last < k → slice_get groups k ≡ Some g → place < g.start) → IsJoined groups (set cut last (record { start = other.start; edges = other.edges; is_cycle = true })) place
 joins groups cut last place group other shape inside is also low above =
     let at : slice_get groups last ≡ Some group = slice_get_read groups (length groups) last group refl inside is in

@@ -19,11 +19,13 @@ use Rattle.dg_sort.proofs.Pop.{last_highest}
 placed_stays : (rank : ℕ) (blocks : List ℕ) (marks : List Mark) (block : ℕ) → slice_get marks block ≡ Some (Placed rank) → slice_get (placed_marks rank blocks marks) block ≡ Some (Placed rank)
 placed_stays rank [] marks block at = at
 placed_stays rank (x ∷ blocks) marks block at = placed_stays rank blocks (set marks x (Placed rank)) block (⊎_elim
-    (λ (same : x ≡ block). subst (λ u. slice_get (set marks u (Placed rank)) block ≡ Some (Placed rank)) (sym same) (set_same marks block (Placed rank) (slice_get_within marks block (Placed rank) at)))
+    (λ (same : x ≡ block). subst (λ u. slice_get (set marks u (Placed rank)) block ≡ Some (Placed rank)) (sym same)
+    (set_same marks block (Placed rank) (slice_get_within marks block (Placed rank) at)))
     (λ (differ : x ≡ block → ⊥). set_other marks x block (Placed rank) differ ∙ at)
     (cases_eq x block))
 
-placed_in : (rank : ℕ) (blocks : List ℕ) (marks : List Mark) (k block : ℕ) → slice_get blocks k ≡ Some block → block < length marks → slice_get (placed_marks rank blocks marks) block ≡ Some (Placed rank)
+placed_in : (rank : ℕ) (blocks : List ℕ) (marks : List Mark) (k block : ℕ) → slice_get blocks k ≡ Some block
+    → block < length marks → slice_get (placed_marks rank blocks marks) block ≡ Some (Placed rank)
 placed_in rank [] marks k block at inside = absurd (none-some block at)
 placed_in rank (x ∷ blocks) marks zero block at inside =
     let same : x ≡ block = same_Some x block at in
@@ -69,7 +71,9 @@ lowered_on P (Some other) x old new = ⊎_elim
     (λ (more : x ≤ other). let e : x ≡ min other x = omega (arith, more) in subst P e new)
     (cases_lt other x)
 
-least_on : (P : ℕ → Type 0) (is_cycle : Bool) (blocks : List ℕ) (first : Option ℕ) → MatchOption first ⊤ P → (is_cycle ≡ true → (k block : ℕ) → slice_get blocks k ≡ Some block → P block) → MatchOption (least_of is_cycle blocks first) ⊤ P
+least_on : (P : ℕ → Type 0) (is_cycle : Bool) (blocks : List ℕ) (first : Option ℕ) → MatchOption first ⊤ P
+    → (is_cycle ≡ true → (k block : ℕ) → slice_get blocks k ≡ Some block → P block)
+    → MatchOption (least_of is_cycle blocks first) ⊤ P
 least_on P is_cycle [] first old all = old
 least_on P true (x ∷ blocks) first old all = least_on P true blocks (lowered first x) (lowered_on P first x old (all refl 0 x refl)) (λ on k block at. all refl (suc k) block at)
 least_on P false (x ∷ blocks) first old all = least_on P false blocks first old (λ on k block at. absurd (false≢true on))
@@ -132,7 +136,9 @@ module _ (rows : List (List ℕ)) (marks : List Mark) (held order : List ℕ) (f
 
   mark_in : (block : ℕ) → Closing held group.start block → slice_get (closed_marks marks held order group.start) block ≡ Some (Placed (length order))
   mark_in block c =
-      placed_in (length order) (drop group.start held) marks (c.place - group.start) block (in_drop group.start held c.place block c.from c.at) (slice_get_within marks block (Held c.place) (places.holds c.place block c.at))
+      placed_in (length order) (drop group.start held) marks (c.place - group.start) block
+      (in_drop group.start held c.place block c.from c.at)
+      (slice_get_within marks block (Held c.place) (places.holds c.place block c.at))
 
   mark_out : (block : ℕ) → (Closing held group.start block → ⊥) → slice_get (closed_marks marks held order group.start) block ≡ slice_get marks block
   mark_out block out = placed_other (length order) (drop group.start held) marks block (λ k at. out (closing_at k block at))
@@ -168,7 +174,8 @@ module _ (rows : List (List ℕ)) (marks : List Mark) (held order : List ℕ) (f
 
   -- ---- places
 
-  placed_at' : (block rank : ℕ) → slice_get (closed_marks marks held order group.start) block ≡ Some (Placed rank) → IsPlacedAt (order ++ drop group.start held) (closed_first first held group) block rank
+  placed_at' : (block rank : ℕ) → slice_get (closed_marks marks held order group.start) block ≡ Some (Placed rank)
+      → IsPlacedAt (order ++ drop group.start held) (closed_first first held group) block rank
   placed_at' block rank at = ⊎_elim
       (λ (c : Closing held group.start block).
       let is : length order ≡ rank = mark_rank (length order) rank (sym (mark_in block c) ∙ at) in
@@ -215,7 +222,9 @@ module _ (rows : List (List ℕ)) (marks : List Mark) (held order : List ℕ) (f
       (get_cases order (drop group.start held) place block at)
 
   -- what a block of the group reads
-  settled_in : (block source : ℕ) → Closing held group.start block → Reads rows block source → IsSettled (closed_marks marks held order group.start) (closed_first first held group) block (length order) source
+  settled_in : (block source : ℕ) → Closing held group.start block → Reads rows block source
+      → IsSettled (closed_marks marks held order group.start) (closed_first first held group) block
+      (length order) source
   settled_in block source c reads_it = ⊎_elim
       (λ (is : IsPlaced marks source).
       let at = places.placed_at source is.rank is.at in
@@ -246,7 +255,9 @@ module _ (rows : List (List ℕ)) (marks : List Mark) (held order : List ℕ) (f
       over_start true n above = above
       over_start false n above = omega (arith, above)
 
-  settled' : (block rank source : ℕ) → slice_get (closed_marks marks held order group.start) block ≡ Some (Placed rank) → Reads rows block source → IsSettled (closed_marks marks held order group.start) (closed_first first held group) block rank source
+  settled' : (block rank source : ℕ) → slice_get (closed_marks marks held order group.start) block
+      ≡ Some (Placed rank) → Reads rows block source
+      → IsSettled (closed_marks marks held order group.start) (closed_first first held group) block rank source
   settled' block rank source at reads_it = ⊎_elim
       (λ (c : Closing held group.start block).
       let is : length order ≡ rank = mark_rank (length order) rank (sym (mark_in block c) ∙ at) in
@@ -331,7 +342,8 @@ module _ (rows : List (List ℕ)) (marks : List Mark) (held order : List ℕ) (f
 
   -- ---- readings
 
-  looked' : (k place block source : ℕ) (other : Group) → slice_get (take (length groups - 1) groups) k ≡ Some other → other.start ≤ place → slice_get (take group.start held) place ≡ Some block → Reads rows block source
+  looked' : (k place block source : ℕ) (other : Group) → slice_get (take (length groups - 1) groups) k ≡ Some other
+      → other.start ≤ place → slice_get (take group.start held) place ≡ Some block → Reads rows block source
       → IsLooked (closed_marks marks held order group.start) edges other source
   looked' k place block source other at from here reads_it = ⊎_elim
       (λ (is : IsPlaced marks source). inl (record { rank = is.rank; at = mark_out source (placed_out source is.rank is.at) ∙ is.at }))

@@ -16,7 +16,8 @@ use Rattle.dg_sort.proofs.Ways.{way_stays}
 use Rattle.dg_sort.proofs.Pop.{Popped}
 
 -- another mark than that of one block
-apart : (marks : List Mark) (block other : ℕ) (mark new : Mark) → slice_get marks block ≡ Some Unmet → slice_get marks other ≡ Some mark → (Unmet ≡ mark → ⊥) → slice_get (set marks block new) other ≡ Some mark
+apart : (marks : List Mark) (block other : ℕ) (mark new : Mark) → slice_get marks block ≡ Some Unmet
+    → slice_get marks other ≡ Some mark → (Unmet ≡ mark → ⊥) → slice_get (set marks block new) other ≡ Some mark
 apart marks block other mark new unmet at differ =
     set_other marks block other new (λ same. differ (same_Some Unmet mark (sym unmet ∙ ap (slice_get marks) same ∙ at))) ∙ at
 
@@ -32,7 +33,9 @@ held-placed place rank e = cc
 held-place : (place other : ℕ) → Held place ≡ Held other → place ≡ other
 held-place place other e = cc
 
-module _ (rows : List (List ℕ)) (marks : List Mark) (held order : List ℕ) (first : Option ℕ) (block : ℕ) (are : ArePlaced rows marks held order first) (inside : block < length rows) (unmet : slice_get marks block ≡ Some Unmet) where
+module _ (rows : List (List ℕ)) (marks : List Mark) (held order : List ℕ) (first : Option ℕ) (block : ℕ)
+    (are : ArePlaced rows marks held order first) (inside : block < length rows)
+    (unmet : slice_get marks block ≡ Some Unmet) where
   own_mark : slice_get (set marks block (Held (length held))) block ≡ Some (Held (length held))
   own_mark = let size = are.marked in set_same marks block (Held (length held)) (omega (arith, size, inside))
 
@@ -93,7 +96,10 @@ module _ (rows : List (List ℕ)) (held : List ℕ) (groups : List Group) (edges
   new_at : slice_get (groups ++ new_group held front ∷ []) (length groups) ≡ Some (new_group held front)
   new_at = last_at groups (new_group held front)
 
-  rises : (k later : ℕ) (group other : Group) → k < later → slice_get (groups ++ new_group held front ∷ []) k ≡ Some group → slice_get (groups ++ new_group held front ∷ []) later ≡ Some other → (group.start < other.start) × (group.edges ≤ other.edges)
+  rises : (k later : ℕ) (group other : Group) → k < later
+      → slice_get (groups ++ new_group held front ∷ []) k ≡ Some group
+      → slice_get (groups ++ new_group held front ∷ []) later ≡ Some other
+      → (group.start < other.start) × (group.edges ≤ other.edges)
   rises k later group other below at there = ⊎_elim
       (λ (old : slice_get groups k ≡ Some group). ⊎_elim
       (λ (late : slice_get groups later ≡ Some other). are.rising k later group other below old late)
@@ -105,7 +111,9 @@ module _ (rows : List (List ℕ)) (held : List ℕ) (groups : List Group) (edges
       (push_cases groups (new_group held front) later other there))
       (push_cases groups (new_group held front) k group at)
 
-  single_met : (k place : ℕ) (group : Group) → slice_get (groups ++ new_group held front ∷ []) k ≡ Some group → group.is_cycle ≡ false → group.start < place → place < length (held ++ block ∷ []) → BeginsAfter (groups ++ new_group held front ∷ []) group.start place
+  single_met : (k place : ℕ) (group : Group) → slice_get (groups ++ new_group held front ∷ []) k ≡ Some group
+      → group.is_cycle ≡ false → group.start < place → place < length (held ++ block ∷ [])
+      → BeginsAfter (groups ++ new_group held front ∷ []) group.start place
   single_met k place group at single above below =
       let size = length-append held (block ∷ []) in
       ⊎_elim
@@ -164,7 +172,8 @@ module _ (rows : List (List ℕ)) (held : List ℕ) (groups : List Group) (edges
 
   module _ (marks : List Mark) (order : List ℕ) (first : Option ℕ) (places : ArePlaced rows marks held order first) (inside : block < length rows) (unmet : slice_get marks block ≡ Some Unmet)
       (reads : AreLooked rows marks held groups edges) (led : (place other : ℕ) → slice_get held place ≡ Some other → LeadsBack rows other block) where
-    still_looked_at : (group : Group) (source : ℕ) → group.start < length held → IsLooked marks edges group source → IsLooked (set marks block (Held (length held))) (front ++ row_at rows block) group source
+    still_looked_at : (group : Group) (source : ℕ) → group.start < length held → IsLooked marks edges group source
+        → IsLooked (set marks block (Held (length held))) (front ++ row_at rows block) group source
     still_looked_at group source low looked = ⊎_elim
         (λ placed. inl (still_placed rows marks held order first block places inside unmet source placed))
         (λ more. ⊎_elim
@@ -185,7 +194,9 @@ module _ (rows : List (List ℕ)) (held : List ℕ) (groups : List Group) (edges
     own_left : (low source : ℕ) → low ≤ length front → Reads rows block source → IsLeft (front ++ row_at rows block) low source
     own_left low source from reads_it = record { place = length front + reads_it.place; at = get_right front (row_at rows block) reads_it.place ∙ reads_it.at; from = omega arith }
 
-    met_looked_at : (k place other source : ℕ) (group : Group) → slice_get (groups ++ new_group held front ∷ []) k ≡ Some group → group.start ≤ place → slice_get (held ++ block ∷ []) place ≡ Some other → Reads rows other source
+    met_looked_at : (k place other source : ℕ) (group : Group)
+        → slice_get (groups ++ new_group held front ∷ []) k ≡ Some group → group.start ≤ place
+        → slice_get (held ++ block ∷ []) place ≡ Some other → Reads rows other source
         → IsLooked (set marks block (Held (length held))) (front ++ row_at rows block) group source
     met_looked_at k place other source group at from here reads_it = ⊎_elim
         (λ (old : slice_get groups k ≡ Some group). ⊎_elim
@@ -197,12 +208,16 @@ module _ (rows : List (List ℕ)) (held : List ℕ) (groups : List Group) (edges
         let low = slice_get_within held place other there in
         let high = subst (λ (g : Group). g.start ≤ place) (sym fresh.1) from in
         absurd (omega (arith, low, high)))
-        (λ new. inr (inr (subst (λ (g : Group). IsLeft (front ++ row_at rows block) g.edges source) fresh.1 (own_left (length front) source (omega arith) (subst (λ u. Reads rows u source) (sym new.1) reads_it)))))
+        (λ new. inr (inr (subst (λ (g : Group). IsLeft (front ++ row_at rows block) g.edges source) fresh.1
+        (own_left (length front) source (omega arith)
+        (subst (λ u. Reads rows u source) (sym new.1) reads_it)))))
         (push_cases held block place other here))
         (push_cases groups (new_group held front) k group at)
 
     -- an edge from before is read by a block from before
-    left_before : (low edge source : ℕ) → slice_get front edge ≡ Some source → IsRead rows held groups low edge source → IsRead rows (held ++ block ∷ []) (groups ++ new_group held front ∷ []) low edge source
+    left_before : (low edge source : ℕ) → slice_get front edge ≡ Some source
+        → IsRead rows held groups low edge source
+        → IsRead rows (held ++ block ∷ []) (groups ++ new_group held front ∷ []) low edge source
     left_before low edge source at read = record {
       place = read.place;
       reader = record { block = read.reader.block; at = get_left held (block ∷ []) read.place read.reader.block read.reader.at; reads = read.reader.reads; from = read.reader.from };
@@ -213,7 +228,9 @@ module _ (rows : List (List ℕ)) (held : List ℕ) (groups : List Group) (edges
     }
 
     -- an edge of the new block is read by it
-    left_new : (low edge source : ℕ) → low ≤ length held → length front ≤ edge → slice_get (row_at rows block) (edge - length front) ≡ Some source → IsRead rows (held ++ block ∷ []) (groups ++ new_group held front ∷ []) low edge source
+    left_new : (low edge source : ℕ) → low ≤ length held → length front ≤ edge
+        → slice_get (row_at rows block) (edge - length front) ≡ Some source
+        → IsRead rows (held ++ block ∷ []) (groups ++ new_group held front ∷ []) low edge source
     left_new low edge source from above at = record {
       place = length held;
       reader = record { block = block; at = last_at held block; reads = record { place = edge - length front; at = at }; from = from };
@@ -235,11 +252,15 @@ module _ (rows : List (List ℕ)) (held : List ℕ) (groups : List Group) (edges
         (push_cases groups (new_group held front) k group at))
         (λ new. ⊎_elim
         (λ (old : slice_get groups k ≡ Some group). let low = (are.within k group old).0 in left_new group.start edge source (omega (arith, low)) new.0 new.1)
-        (λ fresh. subst (λ (g : Group). IsRead rows (held ++ block ∷ []) (groups ++ new_group held front ∷ []) g.start edge source) fresh.1 (left_new (length held) edge source (omega arith) new.0 new.1))
+        (λ fresh. subst (λ (g : Group). IsRead rows (held ++ block ∷ [])
+        (groups ++ new_group held front ∷ []) g.start edge source) fresh.1
+        (left_new (length held) edge source (omega arith) new.0 new.1))
         (push_cases groups (new_group held front) k group at))
         (get_cases front (row_at rows block) edge source here)
 
-    met_leads : (place later other source : ℕ) → slice_get (held ++ block ∷ []) place ≡ Some other → slice_get (held ++ block ∷ []) later ≡ Some source → NoneBetween (groups ++ new_group held front ∷ []) place later → LeadsBack rows other source
+    met_leads : (place later other source : ℕ) → slice_get (held ++ block ∷ []) place ≡ Some other
+        → slice_get (held ++ block ∷ []) later ≡ Some source
+        → NoneBetween (groups ++ new_group held front ∷ []) place later → LeadsBack rows other source
     met_leads place later other source at there none = ⊎_elim
         (λ (old : slice_get held place ≡ Some other). ⊎_elim
         (λ (late : slice_get held later ≡ Some source). reads.leads place later other source old late (none_before place later none))
@@ -254,7 +275,9 @@ module _ (rows : List (List ℕ)) (held : List ℕ) (groups : List Group) (edges
         (push_cases held block later source there))
         (push_cases held block place other at)
 
-    met_cycles : (k place other : ℕ) (group : Group) → slice_get (groups ++ new_group held front ∷ []) k ≡ Some group → group.is_cycle ≡ true → group.start ≤ place → slice_get (held ++ block ∷ []) place ≡ Some other
+    met_cycles : (k place other : ℕ) (group : Group)
+        → slice_get (groups ++ new_group held front ∷ []) k ≡ Some group → group.is_cycle ≡ true
+        → group.start ≤ place → slice_get (held ++ block ∷ []) place ≡ Some other
         → NoneBetween (groups ++ new_group held front ∷ []) place group.start → IsOnCycle rows other
     met_cycles k place other group at on from here none = ⊎_elim
         (λ (old : slice_get groups k ≡ Some group). ⊎_elim

@@ -13,7 +13,9 @@ use Rattle.dg_sort.proofs.LastGroup.{mark_rank}
 
 module _ (rows : List (List ℕ)) (marks : List Mark) (held order : List ℕ) (first : Option ℕ) (places : ArePlaced rows marks held order first) where
   -- back over readings ranks never rise
-  ranks_fall : (steps block rank source : ℕ) → slice_get marks block ≡ Some (Placed rank) → LeadsBackIn rows steps block source → (other : ℕ) × (slice_get marks source ≡ Some (Placed other)) × (other ≤ rank)
+  ranks_fall : (steps block rank source : ℕ) → slice_get marks block ≡ Some (Placed rank)
+      → LeadsBackIn rows steps block source
+      → (other : ℕ) × (slice_get marks source ≡ Some (Placed other)) × (other ≤ rank)
   ranks_fall zero block rank source at way = (rank, ap (slice_get marks) (sym way) ∙ at, omega arith)
   ranks_fall (suc steps) block rank source at way =
       let one = places.settled block rank (way.0) at (way.1) in
@@ -96,7 +98,9 @@ found_first rows marks held order first known places all = record {
       (cases_lt block first);
 }
 
-pub found : (rows : List (List ℕ)) (walk : Walk) → AreKnown rows → IsState rows walk → walk.groups ≡ [] → ((block : ℕ) → block < length rows → slice_get walk.marks block ≡ Some Unmet → ⊥) → IsFound rows walk.order walk.first
+pub found : (rows : List (List ℕ)) (walk : Walk) → AreKnown rows → IsState rows walk → walk.groups ≡ []
+    → ((block : ℕ) → block < length rows → slice_get walk.marks block ≡ Some Unmet → ⊥)
+    → IsFound rows walk.order walk.first
 found rows walk known state free met = by_first walk.first state.places
   where
     by_first : (first : Option ℕ) → ArePlaced rows walk.marks walk.held walk.order first → IsFound rows walk.order first

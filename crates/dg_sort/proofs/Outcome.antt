@@ -31,7 +31,9 @@ module _ (diagram : Diagram) (rows : List (List ℕ)) (cycle : List ℕ) (are : 
       let some = is.some in
       let e : suc (length cycle - 1) ≡ length cycle = omega (arith, some) in
       let m : suc (length cycle - 1) % length cycle ≡ 0 = ap (λ n. n % length cycle) e ∙ mod_self (length cycle) in
-      subst (λ n. Reads rows (slice_index cycle n) (slice_index cycle (length cycle - 1))) m (are.whole (slice_index cycle (suc (length cycle - 1) % length cycle)) (slice_index cycle (length cycle - 1)) (is.leads (length cycle - 1) (omega (arith, some))))
+      subst (λ n. Reads rows (slice_index cycle n) (slice_index cycle (length cycle - 1))) m
+      (are.whole (slice_index cycle (suc (length cycle - 1) % length cycle))
+      (slice_index cycle (length cycle - 1)) (is.leads (length cycle - 1) (omega (arith, some))))
 
   down : (steps k : ℕ) → k + steps < length cycle → LeadsBack rows (slice_index cycle (k + steps)) (slice_index cycle k)
   down zero k below = let e : k + 0 ≡ k = omega arith in way_stays rows (slice_index cycle (k + 0)) (slice_index cycle k) (ap (slice_index cycle) e)
@@ -39,7 +41,9 @@ module _ (diagram : Diagram) (rows : List (List ℕ)) (cycle : List ℕ) (are : 
       let e : k + suc steps ≡ suc (k + steps) = omega arith in
       let reads = next_reads (k + steps) (omega (arith, below)) in
       subst (λ n. LeadsBack rows (slice_index cycle n) (slice_index cycle k)) (sym e)
-      (ways_join rows (slice_index cycle (suc (k + steps))) (slice_index cycle (k + steps)) (slice_index cycle k) (way_reads rows (slice_index cycle (suc (k + steps))) (slice_index cycle (k + steps)) reads) (down steps k (omega (arith, below))))
+      (ways_join rows (slice_index cycle (suc (k + steps))) (slice_index cycle (k + steps)) (slice_index cycle k)
+      (way_reads rows (slice_index cycle (suc (k + steps))) (slice_index cycle (k + steps)) reads)
+      (down steps k (omega (arith, below))))
 
   -- from the last block back to any
   from_last : (k : ℕ) → k < length cycle → LeadsBack rows (slice_index cycle (length cycle - 1)) (slice_index cycle k)
@@ -56,7 +60,9 @@ module _ (diagram : Diagram) (rows : List (List ℕ)) (cycle : List ℕ) (are : 
         next = slice_index cycle k;
         reads = next_reads k below;
         back = ways_join rows (slice_index cycle k) (slice_index cycle 0) (slice_index cycle (suc k)) to_first
-            (ways_join rows (slice_index cycle 0) (slice_index cycle (length cycle - 1)) (slice_index cycle (suc k)) (way_reads rows (slice_index cycle 0) (slice_index cycle (length cycle - 1)) first_reads) (from_last (suc k) below));
+            (ways_join rows (slice_index cycle 0) (slice_index cycle (length cycle - 1)) (slice_index cycle (suc k))
+            (way_reads rows (slice_index cycle 0) (slice_index cycle (length cycle - 1)) first_reads)
+            (from_last (suc k) below));
       }
 
 -- ---- an order
@@ -111,7 +117,10 @@ begins_with : (cycle : List ℕ) (first : ℕ) → slice_get cycle 0 ≡ Some fi
 begins_with [] first at = absurd (none-some first at)
 begins_with (x ∷ more) first at = (more, ap (λ u. u ∷ more) (same_Some x first at))
 
-pub loop_breaks : (diagram : Diagram) (rows : List (List ℕ)) (first : ℕ) (cycle : List ℕ) (fault : RuleFault) → AreRows diagram rows → IsFirst rows first → IsReadCycle rows first cycle → fault ≡ fault_of Rule.Loop (path_of diagram first) (Cycle cycle) → BreaksLoop diagram (attributes_of diagram) fault
+pub loop_breaks : (diagram : Diagram) (rows : List (List ℕ)) (first : ℕ) (cycle : List ℕ) (fault : RuleFault)
+    → AreRows diagram rows → IsFirst rows first → IsReadCycle rows first cycle
+    → fault ≡ fault_of Rule.Loop (path_of diagram first) (Cycle cycle)
+    → BreaksLoop diagram (attributes_of diagram) fault
 loop_breaks diagram rows first cycle fault are is read told =
     let shape = begins_with cycle first read.begins in
     record {
@@ -119,7 +128,9 @@ loop_breaks diagram rows first cycle fault are is read told =
       more = shape.0;
       is_cycle = subst (λ c. IsInstantCycle diagram (attributes_of diagram) c) (shape.1) (read_cycle diagram rows first cycle are read);
       least = λ other other_is k d below.
-          is.least (get_or other k d) (subst (λ b. IsOnCycle rows b) (get_or_from_slice_get other k (get_or other k d) 0 (slice_get-get_or other k d below)) (is_on diagram rows other are other_is k below));
+          is.least (get_or other k d) (subst (λ b. IsOnCycle rows b)
+          (get_or_from_slice_get other k (get_or other k d) 0 (slice_get-get_or other k d below))
+          (is_on diagram rows other are other_is k below));
       fault_is = told ∙ ap (λ c. fault_of Rule.Loop (path_of diagram first) (Cycle c)) (shape.1);
     }
 

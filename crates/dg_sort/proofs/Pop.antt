@@ -25,7 +25,9 @@ none_popped groups held edges source are = record {
 }
 
 -- the last group begins behind all others
-pub last_highest : (groups : List Group) (held edges : List ℕ) (k : ℕ) (group last : Group) → AreGroups groups held edges → slice_get groups (length groups - 1) ≡ Some last → slice_get groups k ≡ Some group
+pub last_highest : (groups : List Group) (held edges : List ℕ) (k : ℕ) (group last : Group)
+    → AreGroups groups held edges → slice_get groups (length groups - 1) ≡ Some last
+    → slice_get groups k ≡ Some group
     → (group.start ≤ last.start) × (group.edges ≤ last.edges)
 last_highest groups held edges k group last are there at =
     let inside = slice_get_within groups k group at in
@@ -39,7 +41,9 @@ last_highest groups held edges k group last are there at =
     other)
     (cases_order k (length groups - 1))
 
-pub one_popped : (groups : List Group) (held edges front : List ℕ) (source : ℕ) (last : Group) → AreGroups groups held edges → slice_get groups (length groups - 1) ≡ Some last → edges ≡ front ++ source ∷ [] → last.edges ≤ length front
+pub one_popped : (groups : List Group) (held edges front : List ℕ) (source : ℕ) (last : Group)
+    → AreGroups groups held edges → slice_get groups (length groups - 1) ≡ Some last → edges ≡ front ++ source ∷ []
+    → last.edges ≤ length front
     → Popped groups edges front source
 one_popped groups held edges front source last are there shape room = record {
   part = λ edge other at. ap (λ es. slice_get es edge) shape ∙ get_left front (source ∷ []) edge other at;
@@ -68,7 +72,9 @@ pub some_group : (groups : List Group) (k : ℕ) (group : Group) → slice_get g
 some_group groups k group there empty = none-some group (ap (λ gs. slice_get gs k) (sym empty) ∙ there)
 
 -- a placed source is passed over
-pub passed_groups : (groups : List Group) (held edges front : List ℕ) (source : ℕ) (last : Group) → AreGroups groups held edges → Popped groups edges front source → slice_get groups (length groups - 1) ≡ Some last → AreGroups groups held front
+pub passed_groups : (groups : List Group) (held edges front : List ℕ) (source : ℕ) (last : Group)
+    → AreGroups groups held edges → Popped groups edges front source
+    → slice_get groups (length groups - 1) ≡ Some last → AreGroups groups held front
 passed_groups groups held edges front source last are popped there = record {
   none = λ empty. absurd (some_group groups (length groups - 1) last there empty);
   bottom = are.bottom;
@@ -77,7 +83,9 @@ passed_groups groups held edges front source last are popped there = record {
   single = are.single;
 }
 
-pub passed_looked : (rows : List (List ℕ)) (marks : List Mark) (held : List ℕ) (groups : List Group) (edges front : List ℕ) (source : ℕ) → AreLooked rows marks held groups edges → Popped groups edges front source → IsPlaced marks source → AreLooked rows marks held groups front
+pub passed_looked : (rows : List (List ℕ)) (marks : List Mark) (held : List ℕ) (groups : List Group)
+    (edges front : List ℕ) (source : ℕ) → AreLooked rows marks held groups edges → Popped groups edges front source
+    → IsPlaced marks source → AreLooked rows marks held groups front
 passed_looked rows marks held groups edges front source are popped placed = record {
   looked = λ k place block other group at from here reads.
       still_looked marks groups edges front source other group popped (λ same. inl (subst (λ u. IsPlaced marks u) same placed)) (are.looked k place block other group at from here reads);

@@ -21,7 +21,9 @@ use Rattle.dg_sort.proofs.LastGroup.{placed_places, placed_groups, placed_reads}
 
 -- ---- what is left to do
 
-weight_met : (marks : List Mark) (rows : List (List ℕ)) (block place : ℕ) → slice_get marks block ≡ Some Unmet → block < length rows → unmet_weight (set marks block (Held place)) rows + (length (row_at rows block) + 2) ≡ unmet_weight marks rows
+weight_met : (marks : List Mark) (rows : List (List ℕ)) (block place : ℕ) → slice_get marks block ≡ Some Unmet
+    → block < length rows → unmet_weight (set marks block (Held place)) rows + (length (row_at rows block) + 2)
+    ≡ unmet_weight marks rows
 weight_met [] rows block place unmet inside = absurd (none-some Unmet unmet)
 weight_met (mark ∷ marks) [] block place unmet inside = absurd (omega arith)
 weight_met (Unmet ∷ marks) (row ∷ rows) zero place unmet inside = omega arith
@@ -75,7 +77,9 @@ pub record Last (walk : Walk) (group : Group) : Type 0 where
   pub at : slice_get walk.groups (length walk.groups - 1) ≡ Some group
 
 -- the last group is placed
-pub step_placed : (rows : List (List ℕ)) (walk : Walk) (group : Group) → IsState rows walk → slice_get walk.groups (length walk.groups - 1) ≡ Some group → length walk.edges ≡ group.edges → IsStep rows walk (placed walk group)
+pub step_placed : (rows : List (List ℕ)) (walk : Walk) (group : Group) → IsState rows walk
+    → slice_get walk.groups (length walk.groups - 1) ≡ Some group → length walk.edges ≡ group.edges
+    → IsStep rows walk (placed walk group)
 step_placed rows walk group state last spent = record {
   state = record {
     places = placed_places rows walk.marks walk.held walk.order walk.first walk.groups walk.edges group state.places state.groups state.reads last spent;
@@ -290,7 +294,9 @@ pub mark_is : (marks : List Mark) (block : ℕ) (mark is : Mark) → block < len
 mark_is marks block mark is inside at same = slice_get-get_or marks block mark inside ∙ ap Some (sym at ∙ same)
 
 -- its mark, as the code reads it
-pub next_mark : (rows : List (List ℕ)) (walk : Walk) (group : Group) (front : List ℕ) (source : ℕ) (mark is : Mark) → IsNext rows walk group front source → AreKnown rows → mark ≡ get_or walk.marks source mark → mark ≡ is → slice_get walk.marks source ≡ Some is
+pub next_mark : (rows : List (List ℕ)) (walk : Walk) (group : Group) (front : List ℕ) (source : ℕ) (mark is : Mark)
+    → IsNext rows walk group front source → AreKnown rows → mark ≡ get_or walk.marks source mark → mark ≡ is
+    → slice_get walk.marks source ≡ Some is
 next_mark rows walk group front source mark is next known at same =
     let inside = source_there rows walk group front source next known in
     let size = next.state.places.marked in
@@ -303,7 +309,16 @@ can_join rows walk source place group state last =
     let low = (state.groups.bottom (get_or walk.groups 0 group) at).0 in
     record { bottom = get_or walk.groups 0 group; there = at; low = omega (arith, low) }
 
-kept_is : (walk after : Walk) → KeepsAllButGroups walk after → after ≡ record { marks = walk.marks; held = walk.held; groups = after.groups; edges = walk.edges; order = walk.order; first = walk.first }
+kept_is : (walk after : Walk) → KeepsAllButGroups walk after
+    → after ≡ record {
+      marks = walk.marks;
+      held = walk.held;
+      groups = after.groups;
+      edges = walk.edges;
+      order =
+          walk.order;
+      first = walk.first;
+    }
 kept_is walk after kept = λ i. record { marks = kept.marks i; held = kept.held i; groups = after.groups; edges = kept.edges i; order = kept.order i; first = kept.first i }
 
 pub step_kept : (rows : List (List ℕ)) (walk after : Walk) (group : Group) (front : List ℕ) (source place : ℕ) → IsNext rows walk group front source
@@ -314,7 +329,8 @@ step_kept rows walk after group front source place next is join kept =
 pub step_is : (rows : List (List ℕ)) (walk after known : Walk) → IsStep rows walk known → after ≡ known → IsStep rows walk after
 step_is rows walk after known step same = subst (λ w. IsStep rows walk w) (sym same) step
 
-pub root_state : (rows : List (List ℕ)) (walk after : Walk) (root : ℕ) → IsState rows walk → walk.groups ≡ [] → root < length rows → slice_get walk.marks root ≡ Some Unmet → after ≡ met rows walk root → IsState rows after
+pub root_state : (rows : List (List ℕ)) (walk after : Walk) (root : ℕ) → IsState rows walk → walk.groups ≡ []
+    → root < length rows → slice_get walk.marks root ≡ Some Unmet → after ≡ met rows walk root → IsState rows after
 root_state rows walk after root state free inside unmet same = subst (λ w. IsState rows w) (sym same) (root_met rows walk root state free inside unmet)
 
 pub root_kept : (rows : List (List ℕ)) (walk after : Walk) (root block : ℕ) → after ≡ met rows walk root → slice_get after.marks block ≡ Some Unmet → slice_get walk.marks block ≡ Some Unmet
@@ -324,13 +340,17 @@ pub root_is : (rows : List (List ℕ)) (walk after : Walk) (root : ℕ) → root
 root_is rows walk after root inside same at = root_is_met rows walk root inside (ap (λ (w : Walk). slice_get w.marks root) (sym same) ∙ at)
 
 -- one more root is met
-pub roots_more : (rows : List (List ℕ)) (walk after : Walk) (root : ℕ) → IsSearched rows walk after root → ((block : ℕ) → block < root → slice_get walk.marks block ≡ Some Unmet → ⊥) → (block : ℕ) → block < root + 1 → slice_get after.marks block ≡ Some Unmet → ⊥
+pub roots_more : (rows : List (List ℕ)) (walk after : Walk) (root : ℕ) → IsSearched rows walk after root
+    → ((block : ℕ) → block < root → slice_get walk.marks block ≡ Some Unmet → ⊥) → (block : ℕ) → block < root + 1
+    → slice_get after.marks block ≡ Some Unmet → ⊥
 roots_more rows walk after root searched met block below at = ⊎_elim
     (λ (same : block ≡ root). searched.met (subst (λ b. slice_get after.marks b ≡ Some Unmet) same at))
     (λ (other : block ≡ root → ⊥). met block (omega (arith, below, other)) (searched.unmet block at))
     (cases_eq block root)
 
-pub roots_same : (marks : List Mark) (root : ℕ) (mark : Mark) → root < length marks → mark ≡ get_or marks root mark → (mark ≡ Unmet → ⊥) → ((block : ℕ) → block < root → slice_get marks block ≡ Some Unmet → ⊥) → (block : ℕ) → block < root + 1 → slice_get marks block ≡ Some Unmet → ⊥
+pub roots_same : (marks : List Mark) (root : ℕ) (mark : Mark) → root < length marks → mark ≡ get_or marks root mark
+    → (mark ≡ Unmet → ⊥) → ((block : ℕ) → block < root → slice_get marks block ≡ Some Unmet → ⊥) → (block : ℕ)
+    → block < root + 1 → slice_get marks block ≡ Some Unmet → ⊥
 roots_same marks root mark inside is differ met block below at = ⊎_elim
     (λ (same : block ≡ root).
     let there = mark_is marks root mark mark inside is refl in

@@ -36,7 +36,9 @@ inputs_grow types later edges g = record {
   kept = λ k t e. kept edges k t e;
 }
   where
-    kept : (edges : List Edge) (k : ℕ) (t : FxType) → slice_get (map (λ (edge : Edge). known_at types edge.from) edges) k ≡ Some (Some t) → slice_get (map (λ (edge : Edge). known_at later edge.from) edges) k ≡ Some (Some t)
+    kept : (edges : List Edge) (k : ℕ) (t : FxType)
+        → slice_get (map (λ (edge : Edge). known_at types edge.from) edges) k ≡ Some (Some t)
+        → slice_get (map (λ (edge : Edge). known_at later edge.from) edges) k ≡ Some (Some t)
     kept [] k t e = absurd (none-some (Some t) e)
     kept (x ∷ xs) zero t e =
         ap (λ (o : Option FxType). Some o) (there_known later x.from t (g.kept x.from t (known_there types x.from t (same_Some (known_at types x.from) (Some t) e))))
@@ -61,7 +63,9 @@ module _ (sums : FullSumIsOne) (products : FullProductIsOne) (unions : UnionIsOn
 
   -- each known type is the one that its block takes
   abbrev pub AreTaken : Types → Type 0
-  AreTaken types = (place : ℕ) (block : Block) (t : FxType) → slice_get diagram.blocks place ≡ Some block → known_at types place ≡ Some t → taken_type block.kind block.result (input_types diagram types place) ≡ Some t
+  AreTaken types = (place : ℕ) (block : Block) (t : FxType) → slice_get diagram.blocks place ≡ Some block
+      → known_at types place ≡ Some t → taken_type block.kind block.result (input_types diagram types place)
+      ≡ Some t
 
   pub inputs_valid : (types : Types) (place : ℕ) → AreValid types → AreValid (input_types diagram types place)
   inputs_valid types place v i t e = let s = known_source types (edges_into diagram place) i t e in v s.0 t s.1
@@ -83,7 +87,9 @@ module _ (sums : FullSumIsOne) (products : FullProductIsOne) (unions : UnionIsOn
     where
       by_block : (o : Option Block) → slice_get diagram.blocks place ≡ o → type_of_next o (input_types diagram types place) ≡ Some t → IsType t
       by_block None at e = absurd (none-some t e)
-      by_block (Some block) at e = taken_valid sums products unions params block.kind block.result (input_types diagram types place) t (readable place block at).parameters (readable place block at).types (inputs_valid types place v) e
+      by_block (Some block) at e = taken_valid sums products unions params block.kind block.result
+          (input_types diagram types place) t (readable place block at).parameters (readable place block at).types
+          (inputs_valid types place v) e
 
       go : (known_at types place ≡ Some t) ⊎ (taken types place ≡ Some t) → IsType t
       go (inl e) = v place t e

@@ -1,5 +1,6 @@
 -- The line that stands in the list is the one into its port.
-use Rattle.std.proofs.Common.{◌≡◌, ℕ, zero, suc, ◌<◌, ◌≤◌, ◌+◌, ◌-◌, ◌&&◌, Bool, true, false, List, [], ◌∷◌, length, count_by, find, Option, Some, None, slice_get, slice_index_or, MatchOption, cond, ap, sym, ◌∙◌, refl, arith, eq-eqb, ◌==◌}
+use Rattle.std.proofs.Common.{◌≡◌, ℕ, zero, suc, ◌<◌, ◌≤◌, ◌+◌, ◌-◌, ◌&&◌, Bool, true, false, List, [], ◌∷◌, length, count_by, find, Option, Some, None, slice_get, slice_index_or, MatchOption, cond}
+use Rattle.std.proofs.Common.{ap, sym, ◌∙◌, refl, arith, eq-eqb, ◌==◌}
 use Rattle.std.proofs.lemmas.Option.{none-some, same_Some, slice_get_within}
 use Rattle.std.proofs.lemmas.List.Sums.{sum_by-cons}
 use Rattle.dg_model.specs.declared.diagram.Diagram.{Diagram}
@@ -38,21 +39,31 @@ module _ (diagram : Diagram) (wired : IsWired diagram) where
   pub driver_is : (i : ℕ) (edge : Edge) → slice_get diagram.edges i ≡ Some edge → driver_of diagram edge.to edge.to_port ≡ Some edge
   driver_is i edge at = go (slice_get diagram.blocks edge.to) refl (held (Joins diagram.blocks) diagram.edges i edge wired.edges at).target
     where
-      go : (o : Option Block) → slice_get diagram.blocks edge.to ≡ o → MatchOption o ⊥ (λ block. (1 ≤ edge.to_port) × (edge.to_port ≤ block.inputs)) → driver_of diagram edge.to edge.to_port ≡ Some edge
+      go : (o : Option Block) → slice_get diagram.blocks edge.to ≡ o
+          → MatchOption o ⊥ (λ block. (1 ≤ edge.to_port) × (edge.to_port ≤ block.inputs))
+          → driver_of diagram edge.to edge.to_port ≡ Some edge
       go None e h = absurd h
       go (Some b) e h =
           let self : enters edge.to edge.to_port edge ≡ true = ap (λ (x : Bool). x && (edge.to_port == edge.to_port)) (eq-eqb edge.to edge.to refl) ∙ eq-eqb edge.to_port edge.to_port refl in
           found_one (enters edge.to edge.to_port) diagram.edges i edge at self (wired.driven edge.to edge.to_port b e h.0 h.1)
 
-pub source_there : (diagram : Diagram) → IsChecked diagram → (block port : ℕ) (edge : Edge) → driver_of diagram block port ≡ Some edge → (1 ≤ edge.from_port) × (edge.from_port - 1 < length (slice_index_or (widths_of diagram) edge.from []))
-source_there diagram checked block port edge driver = go (slice_get diagram.blocks edge.from) refl (find_holds (Joins diagram.blocks) (enters block port) diagram.edges edge checked.wired.edges driver).source
+pub source_there : (diagram : Diagram) → IsChecked diagram → (block port : ℕ) (edge : Edge)
+    → driver_of diagram block port ≡ Some edge
+    → (1 ≤ edge.from_port) × (edge.from_port - 1 < length (slice_index_or (widths_of diagram) edge.from []))
+source_there diagram checked block port edge driver =
+    go (slice_get diagram.blocks edge.from) refl
+    (find_holds (Joins diagram.blocks) (enters block port) diagram.edges edge checked.wired.edges driver).source
   where
-    go : (o : Option Block) → slice_get diagram.blocks edge.from ≡ o → MatchOption o ⊥ (λ block. (1 ≤ edge.from_port) × (edge.from_port ≤ block.outputs)) → (1 ≤ edge.from_port) × (edge.from_port - 1 < length (slice_index_or (widths_of diagram) edge.from []))
+    go : (o : Option Block) → slice_get diagram.blocks edge.from ≡ o
+        → MatchOption o ⊥ (λ block. (1 ≤ edge.from_port) × (edge.from_port ≤ block.outputs))
+        → (1 ≤ edge.from_port) × (edge.from_port - 1 < length (slice_index_or (widths_of diagram) edge.from []))
     go None e h = absurd h
     go (Some b) e h = (h.0, omega (arith, h.0, h.1, outputs_there diagram checked.wired checked.dimensions edge.from b e))
 
 pub source_within : (diagram : Diagram) → IsChecked diagram → (block port : ℕ) (edge : Edge) → driver_of diagram block port ≡ Some edge → edge.from < length diagram.blocks
-source_within diagram checked block port edge driver = go (slice_get diagram.blocks edge.from) refl (find_holds (Joins diagram.blocks) (enters block port) diagram.edges edge checked.wired.edges driver).source
+source_within diagram checked block port edge driver =
+    go (slice_get diagram.blocks edge.from) refl
+    (find_holds (Joins diagram.blocks) (enters block port) diagram.edges edge checked.wired.edges driver).source
   where
     go : (o : Option Block) → slice_get diagram.blocks edge.from ≡ o → MatchOption o ⊥ (λ block. (1 ≤ edge.from_port) × (edge.from_port ≤ block.outputs)) → edge.from < length diagram.blocks
     go None e h = absurd h

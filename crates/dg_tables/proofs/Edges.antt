@@ -23,7 +23,10 @@ module _ (diagram : Diagram) (wired : IsWired diagram) (block : ℕ) (b : Block)
   pub edge_at : (i : ℕ) → i < b.inputs → (edge : Edge) × (slice_get (edges_into diagram block) i ≡ Some edge) × (driver_of diagram block (suc i) ≡ Some edge)
   edge_at i below =
       let port : 1 + i ≡ suc i = omega arith in
-      let here : slice_get (map (driver_of diagram block) (numbers_from 1 b.inputs)) i ≡ Some (driver_of diagram block (suc i)) = mapped_at (driver_of diagram block) 1 b.inputs i below ∙ ap (λ (n : ℕ). Some (driver_of diagram block n)) port in
+      let here : slice_get (map (driver_of diagram block) (numbers_from 1 b.inputs)) i
+      ≡ Some (driver_of diagram block (suc i)) =
+      mapped_at (driver_of diagram block) 1 b.inputs i below
+      ∙ ap (λ (n : ℕ). Some (driver_of diagram block n)) port in
       let there = map_there {B = Option Edge} (λ edge. Some edge) (edges_into diagram block) i (driver_of diagram block (suc i))
       (ap (λ (drivers : List (Option Edge)). slice_get drivers i) (sym (drivers_are_edges diagram block b wired block_is)) ∙ here) in
       (there.0, there.1, sym there.2)

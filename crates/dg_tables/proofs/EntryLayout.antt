@@ -1,5 +1,6 @@
 -- How entries are laid out, one block behind another.
-use Rattle.std.proofs.Common.{◌≡◌, ℕ, zero, suc, ◌+◌, ◌-◌, ◌^◌, ◌<◌, ◌≤◌, ◌⊎◌, ◌++◌, inl, inr, List, [], ◌∷◌, length, map, Some, slice_get, length-append, length-set, get_or-set_other, get_or-set_same, ap, ap₂, sym, ◌∙◌, subst, subst₂, refl, arith, le_refl}
+use Rattle.std.proofs.Common.{◌≡◌, ℕ, zero, suc, ◌+◌, ◌-◌, ◌^◌, ◌<◌, ◌≤◌, ◌⊎◌, ◌++◌, inl, inr, List, [], ◌∷◌, length, map, Some, slice_get, length-append, length-set, get_or-set_other}
+use Rattle.std.proofs.Common.{get_or-set_same, ap, ap₂, sym, ◌∙◌, subst, subst₂, refl, arith, le_refl}
 use Rattle.std.specs.Prelude.{slice_set, slice_index_or}
 use Rattle.std.proofs.lemmas.Bool.{cases_lt}
 use Rattle.std.proofs.lemmas.Option.{none-some, same_Some, slice_get_within, slice_get-get_or, get_or_from_slice_get}
@@ -44,7 +45,9 @@ set_there xs i x within = slice_get-get_or (slice_set xs i x) i x (subst (λ (n 
 
 set_other : {A : Type 0} (xs : List A) (i j : ℕ) (x y : A) → (j ≡ i → ⊥) → slice_get xs j ≡ Some y → slice_get (slice_set xs i x) j ≡ Some y
 set_other xs i j x y other at =
-    slice_get-get_or (slice_set xs i x) j y (subst (λ (n : ℕ). j < n) (sym (length-set xs i x)) (slice_get_within xs j y at)) ∙ ap (λ y. Some y) (get_or-set_other xs i j x y other ∙ get_or_from_slice_get xs j y y at)
+    slice_get-get_or (slice_set xs i x) j y
+    (subst (λ (n : ℕ). j < n) (sym (length-set xs i x)) (slice_get_within xs j y at))
+    ∙ ap (λ y. Some y) (get_or-set_other xs i j x y other ∙ get_or_from_slice_get xs j y y at)
 
 -- ---- the ports of a block
 module _ (diagram : Diagram) (attributes : Attributes) (block : ℕ) (b : Block) (block_is : slice_get diagram.blocks block ≡ Some b) where
@@ -78,8 +81,14 @@ module _ (diagram : Diagram) (attributes : Attributes) (block : ℕ) (b : Block)
               let start : length before + (port - 1) ≡ length entries + 0 = omega (arith, same, put.size) in
               let within : element < width = subst (λ (p : ℕ). element < shown_width diagram attributes b.kind block p) same below in
               let zero_more : 0 + element ≡ element = omega arith in
-              let here : slice_get row element ≡ Some (place_at block port element) = mapped_at (place_at block (n + 1)) 0 width element within ∙ ap₂ (λ (p e : ℕ). Some (place_at block p e)) (sym same) zero_more in
-              (length places, ap (slice_get (entries ++ length places ∷ [])) start ∙ behind entries (length places ∷ []) 0 (length places) refl, behind places row element (place_at block port element) here)
+              let here : slice_get row element ≡ Some (place_at block port element) =
+              mapped_at (place_at block (n + 1)) 0 width element within
+              ∙ ap₂ (λ (p e : ℕ). Some (place_at block p e)) (sym same) zero_more in (
+                length places,
+                ap (slice_get (entries ++ length places ∷ [])) start
+                    ∙ behind entries (length places ∷ []) 0 (length places) refl,
+                behind places row element (place_at block port element) here,
+              )
         ];
         own = λ j place at past. elim (split places row j place at) [
           | inl h ↦ put.own j place h past
@@ -93,14 +102,18 @@ module _ (diagram : Diagram) (attributes : Attributes) (block : ℕ) (b : Block)
 module _ (checked : CheckedDiagram) (is_order : IsOrder checked.diagram (attributes_of checked.diagram) checked.order) where
   one_place : (k l x : ℕ) → slice_get checked.order k ≡ Some x → slice_get checked.order l ≡ Some x → k ≡ l
   one_place k l x at_k at_l = elim (cases_lt k l) [
-    | inl less ↦ absurd (is_order.different k l x less (slice_get_within checked.order l x at_l) (get_or_from_slice_get checked.order k x x at_k ∙ sym (get_or_from_slice_get checked.order l x x at_l)))
+    | inl less ↦ absurd (is_order.different k l x less (slice_get_within checked.order l x at_l)
+        (get_or_from_slice_get checked.order k x x at_k ∙ sym (get_or_from_slice_get checked.order l x x at_l)))
     | inr past ↦ elim (cases_lt l k) [
-      | inl less ↦ absurd (is_order.different l k x less (slice_get_within checked.order k x at_k) (get_or_from_slice_get checked.order l x x at_l ∙ sym (get_or_from_slice_get checked.order k x x at_k)))
+      | inl less ↦ absurd (is_order.different l k x less (slice_get_within checked.order k x at_k)
+          (get_or_from_slice_get checked.order l x x at_l ∙ sym (get_or_from_slice_get checked.order k x x at_k)))
       | inr other ↦ omega (arith, past, other)
     ]
   ]
 
-  pub laid_none : (starts : Starts) (places : List Place) → places ≡ [] → AreLines checked.diagram starts.lines.items → length starts.ports.items ≡ length checked.diagram.blocks → AreLaid checked 0 starts places
+  pub laid_none : (starts : Starts) (places : List Place) → places ≡ []
+      → AreLines checked.diagram starts.lines.items → length starts.ports.items ≡ length checked.diagram.blocks
+      → AreLaid checked 0 starts places
   laid_none starts places none lines size = subst (λ (ps : List Place). AreLaid checked 0 starts ps) (sym none) (record {
     lines = lines;
     size = size;
@@ -109,10 +122,17 @@ module _ (checked : CheckedDiagram) (is_order : IsOrder checked.diagram (attribu
     ranked = λ j k a c source target at_j at_k at_a at_c less. absurd (none-some source at_j);
   })
 
-  module _ (count block : ℕ) (b : Block) (old new : Starts) (places new_places : List Place) (turn : slice_get checked.order count ≡ Some block) (block_is : slice_get checked.diagram.blocks block ≡ Some b)
-      (put : ArePut checked.diagram (attributes_of checked.diagram) block b (shown_ports b.kind b.outputs) old.entries.items places new.entries.items new_places) (laid : AreLaid checked count old places)
+  module _ (count block : ℕ) (b : Block) (old new : Starts) (places new_places : List Place)
+      (turn : slice_get checked.order count ≡ Some block)
+      (block_is : slice_get checked.diagram.blocks block ≡ Some b)
+      (put : ArePut checked.diagram (attributes_of checked.diagram) block b
+      (shown_ports b.kind b.outputs) old.entries.items places new.entries.items new_places)
+      (laid : AreLaid checked count old places)
     where
-      from : (j : ℕ) (place : Place) → slice_get new_places j ≡ Some place → ((j < length places) × (slice_get places j ≡ Some place)) ⊎ ((length places ≤ j) × IsEntry checked.diagram (attributes_of checked.diagram) place × (place.block ≡ block))
+      from : (j : ℕ) (place : Place) → slice_get new_places j ≡ Some place
+          → ((j < length places) × (slice_get places j ≡ Some place))
+          ⊎ ((length places ≤ j) × IsEntry checked.diagram (attributes_of checked.diagram) place
+          × (place.block ≡ block))
       from j place at = elim (cases_lt j (length places)) [
         | inl less ↦
             let q = get_some places j less in
@@ -128,7 +148,9 @@ module _ (checked : CheckedDiagram) (is_order : IsOrder checked.diagram (attribu
         | inr h ↦ (h.1, count, omega arith, turn ∙ ap (λ (n : ℕ). Some n) (sym h.2))
       ]
 
-      ranked : (j k a c : ℕ) (source target : Place) → slice_get new_places j ≡ Some source → slice_get new_places k ≡ Some target → slice_get checked.order a ≡ Some source.block → slice_get checked.order c ≡ Some target.block → a < c → j < k
+      ranked : (j k a c : ℕ) (source target : Place) → slice_get new_places j ≡ Some source
+          → slice_get new_places k ≡ Some target → slice_get checked.order a ≡ Some source.block
+          → slice_get checked.order c ≡ Some target.block → a < c → j < k
       ranked j k a c source target at_j at_k at_a at_c less = elim (from j source at_j) [
         | inl old_j ↦ elim (from k target at_k) [
           | inl old_k ↦ laid.ranked j k a c source target old_j.1 old_k.1 at_a at_c less
@@ -149,7 +171,9 @@ module _ (checked : CheckedDiagram) (is_order : IsOrder checked.diagram (attribu
       ]
 
       module _ (ports : new.ports.items ≡ slice_set old.ports.items block (length old.entries.items)) where
-        entries : (k : ℕ) (place : Place) → k < count + 1 → slice_get checked.order k ≡ Some place.block → IsEntry checked.diagram (attributes_of checked.diagram) place → IsNumbered new.ports.items new.entries.items new_places place
+        entries : (k : ℕ) (place : Place) → k < count + 1 → slice_get checked.order k ≡ Some place.block
+            → IsEntry checked.diagram (attributes_of checked.diagram) place
+            → IsNumbered new.ports.items new.entries.items new_places place
         entries k place below at entry = elim (cases_lt k count) [
           | inl less ↦
               let o = laid.entries k place less at entry in

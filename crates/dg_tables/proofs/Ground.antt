@@ -21,7 +21,9 @@ pub record IsRanked (diagram : Diagram) (attributes : Attributes) (rank : ℕ �
   pub widths : (block : ℕ) (b : Block) → slice_get diagram.blocks block ≡ Some b → HasWidths diagram attributes block b.kind b.inputs b.outputs
   pub types : (block : ℕ) (b : Block) (port : ℕ) → slice_get diagram.blocks block ≡ Some b → 1 ≤ port → port ≤ shown_ports b.kind b.outputs → IsType (attributes.type_at block port)
   pub params : (block : ℕ) (b : Block) → slice_get diagram.blocks block ≡ Some b → IsType (attributes.param_at block)
-  pub drivers : (block : ℕ) (b : Block) (port : ℕ) (edge : Edge) → slice_get diagram.blocks block ≡ Some b → reads_now diagram attributes block b.kind ≡ true → driver_of diagram block port ≡ Some edge → rank edge.from < rank block
+  pub drivers : (block : ℕ) (b : Block) (port : ℕ) (edge : Edge) → slice_get diagram.blocks block ≡ Some b
+      → reads_now diagram attributes block b.kind ≡ true → driver_of diagram block port ≡ Some edge
+      → rank edge.from < rank block
   pub controls : (block : ℕ) (b : Block) (control : ℕ) → slice_get diagram.blocks block ≡ Some b → asks_now b.kind ≡ true → b.enable ≡ Some control → rank control < rank block
 
 -- the operation of a block
@@ -54,4 +56,6 @@ RankedTableSolves = (diagram : Diagram) (attributes : Attributes) (rank : ℕ �
 -- what it shows is in range
 abbrev pub RankedIsInRange : Type 0
 RankedIsInRange = (diagram : Diagram) (attributes : Attributes) (rank : ℕ → ℕ) (stimulus : Stimulus) (n : ℕ) (table : Table)
-    → IsRanked diagram attributes rank → IsRunnable diagram attributes rank → IsStimulus diagram attributes stimulus n → Solves diagram attributes stimulus n table → EntriesAreInRange diagram attributes table n
+    → IsRanked diagram attributes rank → IsRunnable diagram attributes rank
+    → IsStimulus diagram attributes stimulus n → Solves diagram attributes stimulus n table
+    → EntriesAreInRange diagram attributes table n

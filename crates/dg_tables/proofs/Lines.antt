@@ -1,5 +1,6 @@
 -- Where the lines into a block stand: one behind another, by their ports.
-use Rattle.std.proofs.Common.{◌≡◌, ℕ, zero, suc, ◌+◌, ◌-◌, ◌<◌, ◌≤◌, inl, inr, ◌==◌, Bool, true, false, true≢false, List, [], ◌∷◌, length, count_by, Option, Some, None, slice_get, slice_index_or, MatchOption, if◌then◌else◌, length-set, get_or-set_other, get_or-set_same, ap, sym, ◌∙◌, subst, subst₂, refl, arith}
+use Rattle.std.proofs.Common.{◌≡◌, ℕ, zero, suc, ◌+◌, ◌-◌, ◌<◌, ◌≤◌, inl, inr, ◌==◌, Bool, true, false, true≢false, List, [], ◌∷◌, length, count_by, Option, Some, None, slice_get, slice_index_or}
+use Rattle.std.proofs.Common.{MatchOption, if◌then◌else◌, length-set, get_or-set_other, get_or-set_same, ap, sym, ◌∙◌, subst, subst₂, refl, arith}
 use Rattle.std.specs.Prelude.{slice_set}
 use Rattle.std.proofs.lemmas.Bool.{and_from, and_parts, cases_lt, eq-eqb, eqb-true}
 use Rattle.std.proofs.lemmas.Option.{none-some, same_Some, slice_get_within, get_or_from_slice_get}
@@ -51,7 +52,10 @@ module _ (diagram : Diagram) (wired : IsWired diagram) where
   pub target : (k : ℕ) (edge : Edge) → slice_get diagram.edges k ≡ Some edge → (b : Block) × (slice_get diagram.blocks edge.to ≡ Some b) × (1 ≤ edge.to_port) × (edge.to_port ≤ b.inputs)
   target k edge at = go (slice_get diagram.blocks edge.to) refl (held (Joins diagram.blocks) diagram.edges k edge wired.edges at).target
     where
-      go : (o : Option Block) → slice_get diagram.blocks edge.to ≡ o → MatchOption o ⊥ (λ block. (1 ≤ edge.to_port) × (edge.to_port ≤ block.inputs)) → (b : Block) × (slice_get diagram.blocks edge.to ≡ Some b) × (1 ≤ edge.to_port) × (edge.to_port ≤ b.inputs)
+      go : (o : Option Block) → slice_get diagram.blocks edge.to ≡ o
+          → MatchOption o ⊥ (λ block. (1 ≤ edge.to_port) × (edge.to_port ≤ block.inputs))
+          → (b : Block) × (slice_get diagram.blocks edge.to ≡ Some b) × (1 ≤ edge.to_port)
+          × (edge.to_port ≤ b.inputs)
       go None is h = absurd h
       go (Some b) is h = (b, is, h.0, h.1)
 

@@ -1,5 +1,6 @@
 -- Lists of numbers, hits, and what a search finds.
-use Rattle.std.proofs.Common.{◌≡◌, ℕ, zero, suc, ◌+◌, ◌-◌, ◌%◌, ◌<◌, ◌≤◌, ◌⊎◌, cond, Bool, true, false, List, [], ◌∷◌, map, take, sum, filter, slice_get, slice_index, All, Option, Some, None, if◌then◌else◌, ◌==◌, inl, inr, ap, ap₂, sym, ◌∙◌, subst, refl, arith, lit<}
+use Rattle.std.proofs.Common.{◌≡◌, ℕ, zero, suc, ◌+◌, ◌-◌, ◌%◌, ◌<◌, ◌≤◌, ◌⊎◌, cond, Bool, true, false, List, [], ◌∷◌, map, take, sum, filter, slice_get, slice_index, All, Option, Some, None}
+use Rattle.std.proofs.Common.{if◌then◌else◌, ◌==◌, inl, inr, ap, ap₂, sym, ◌∙◌, subst, refl, arith, lit<}
 use Rattle.std.proofs.Math.Nat.{mod-le}
 use Rattle.std.proofs.lemmas.List.Elements.{All-nil, All-cons, All-weaker, All-filter}
 use Rattle.std.proofs.lemmas.Bool.{cases_lt}
@@ -57,7 +58,9 @@ pub filter_same : (f g : ℕ → Bool) (period : Option ℕ) (t : ℕ) → ((s :
 filter_same f g period zero h = refl
 filter_same f g period (suc t) h = go (is_hit period t) (filter_same f g period t (λ s l. h s (omega arith)))
   where
-    go : (b : Bool) → filter f (hits_before period t) ≡ filter g (hits_before period t) → filter f (if b then t ∷ hits_before period t else hits_before period t) ≡ filter g (if b then t ∷ hits_before period t else hits_before period t)
+    go : (b : Bool) → filter f (hits_before period t) ≡ filter g (hits_before period t)
+        → filter f (if b then t ∷ hits_before period t else hits_before period t)
+        ≡ filter g (if b then t ∷ hits_before period t else hits_before period t)
     go true r = ap₂ (λ (b : Bool) (xs : List ℕ). cond b (t ∷ xs) xs) (h t (omega arith)) r
     go false r = r
 

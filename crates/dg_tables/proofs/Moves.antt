@@ -1,5 +1,6 @@
 -- One sample moves what is kept, and the equations read what is kept.
-use Rattle.std.proofs.Common.{◌≡◌, ℕ, zero, suc, ◌<◌, ◌&&◌, Bool, true, false, cond, if◌then◌else◌, ℤ, List, [], ◌∷◌, take, map, filter, Option, Some, None, slice_get, MatchOption, ap, sym, ◌∙◌, refl, arith}
+use Rattle.std.proofs.Common.{◌≡◌, ℕ, zero, suc, ◌<◌, ◌&&◌, Bool, true, false, cond, if◌then◌else◌, ℤ, List, [], ◌∷◌, take, map, filter, Option, Some, None, slice_get, MatchOption, ap, sym, ◌∙◌, refl}
+use Rattle.std.proofs.Common.{arith}
 use Rattle.fx_type.specs.declared.decimal.Decimal.{Decimal}
 use Rattle.dg_model.specs.declared.diagram.Diagram.{Diagram}
 use Rattle.dg_model.specs.declared.kind.Kind.{Kind}
@@ -42,7 +43,9 @@ hits_counted period t = go (is_hit period t)
 filter_counted : (test : ℕ → Bool) (period : Option ℕ) (t : ℕ) → filter test (hits_before period (suc t)) ≡ hits_moved (count_if (is_hit period t && test t)) t (filter test (hits_before period t))
 filter_counted test period t = go (is_hit period t) (test t) refl
   where
-    go : (hit enabled : Bool) → test t ≡ enabled → filter test (if hit then t ∷ hits_before period t else hits_before period t) ≡ hits_moved (count_if (hit && enabled)) t (filter test (hits_before period t))
+    go : (hit enabled : Bool) → test t ≡ enabled
+        → filter test (if hit then t ∷ hits_before period t else hits_before period t)
+        ≡ hits_moved (count_if (hit && enabled)) t (filter test (hits_before period t))
     go false enabled e = refl
     go true true e = ap (λ (b : Bool). cond b (t ∷ filter test (hits_before period t)) (filter test (hits_before period t))) e
     go true false e = ap (λ (b : Bool). cond b (t ∷ filter test (hits_before period t)) (filter test (hits_before period t))) e
@@ -58,12 +61,17 @@ since_counted table control period t = go (is_hit period t) (is_enabled_at table
     go true false = refl
 
 module _ (diagram : Diagram) (attributes : Attributes) (table : Table) (block : ℕ) (enable : Option ℕ) where
-  delay_hits : (o : Option ℕ) (reset : Bool) (t : ℕ) → counted_hits table o reset (attributes.period_at block) (suc t) ≡ hits_moved (delay_move table o reset (is_hit (attributes.period_at block) t) t) t (counted_hits table o reset (attributes.period_at block) t)
+  delay_hits : (o : Option ℕ) (reset : Bool) (t : ℕ)
+      → counted_hits table o reset (attributes.period_at block) (suc t)
+      ≡ hits_moved (delay_move table o reset (is_hit (attributes.period_at block) t) t) t
+      (counted_hits table o reset (attributes.period_at block) t)
   delay_hits None reset t = hits_counted (attributes.period_at block) t
   delay_hits (Some control) false t = filter_counted (is_enabled_at table control) (attributes.period_at block) t
   delay_hits (Some control) true t = since_counted table control (attributes.period_at block) t
 
-  hits_step : (kind : Kind) (t : ℕ) → kept_hits diagram attributes table block enable kind (suc t) ≡ hits_moved (move_at diagram attributes table block enable kind t) t (kept_hits diagram attributes table block enable kind t)
+  hits_step : (kind : Kind) (t : ℕ) → kept_hits diagram attributes table block enable kind (suc t)
+      ≡ hits_moved (move_at diagram attributes table block enable kind t) t
+      (kept_hits diagram attributes table block enable kind t)
   hits_step (Delay delay initial reset) t = delay_hits enable reset t
   hits_step (RateTransition period initial) t = hits_counted (period_into diagram attributes block 1) t
   hits_step (EnOut reset initial) t = filter_counted (is_enabled table enable) (attributes.period_at block) t
@@ -71,10 +79,14 @@ module _ (diagram : Diagram) (attributes : Attributes) (table : Table) (block : 
 
   -- what is kept after a sample is what was kept, moved by the sample's input
   pub kept_step : (kind : Kind) (element t : ℕ) → kept_values diagram attributes table block enable kind element (suc t)
-      ≡ moved (move_at diagram attributes table block enable kind t) (kept_count kind) (value_into diagram attributes table block 1 element t) (kept_values diagram attributes table block enable kind element t)
+      ≡ moved (move_at diagram attributes table block enable kind t) (kept_count kind)
+      (value_into diagram attributes table block 1 element t)
+      (kept_values diagram attributes table block enable kind element t)
   kept_step kind element t =
       ap (λ (hits : List ℕ). take (kept_count kind) (map (value_into diagram attributes table block 1 element) hits)) (hits_step kind t)
-      ∙ values_moved (value_into diagram attributes table block 1 element) (move_at diagram attributes table block enable kind t) (kept_count kind) t (kept_hits diagram attributes table block enable kind t)
+      ∙ values_moved (value_into diagram attributes table block 1 element)
+      (move_at diagram attributes table block enable kind t) (kept_count kind) t
+      (kept_hits diagram attributes table block enable kind t)
 
   -- what a block reads of what is kept is what its equation asks for
   pub kept_read : (stimulus : Stimulus) (initial : List Decimal) (element : ℕ) (v : ℤ) (hits : List ℕ) (count k : ℕ) → k < count
@@ -90,6 +102,7 @@ steps_stand diagram attributes table state later t stands step = record {
   row = λ block b port element s shown e. step.row block b port element shown ∙ ap (λ (k : ℕ). table block port element k) (omega (arith, e));
   kept = λ block b element block_is below.
       step.kept block b element block_is below
-      ∙ ap (λ (kept : List ℤ). moved (move_at diagram attributes table block b.enable b.kind t) (kept_count b.kind) (value_into diagram attributes table block 1 element t) kept) (stands.kept block b element block_is below)
+      ∙ ap (λ (kept : List ℤ). moved (move_at diagram attributes table block b.enable b.kind t) (kept_count b.kind)
+      (value_into diagram attributes table block 1 element t) kept) (stands.kept block b element block_is below)
       ∙ sym (kept_step diagram attributes table block b.enable b.kind element t);
 }

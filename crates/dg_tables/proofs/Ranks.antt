@@ -1,5 +1,6 @@
 -- A rank from an order of the blocks: the place of a block in it.
-use Rattle.std.proofs.Common.{◌≡◌, ℕ, zero, suc, ◌+◌, ◌<◌, ◌≤◌, ◌==◌, ◌&&◌, Bool, true, false, true≢false, cond, List, [], ◌∷◌, ◌++◌, length, map, find, slice_get, Option, Some, ap, sym, ◌∙◌, subst, refl, arith, eqb-true, eq-eqb}
+use Rattle.std.proofs.Common.{◌≡◌, ℕ, zero, suc, ◌+◌, ◌<◌, ◌≤◌, ◌==◌, ◌&&◌, Bool, true, false, true≢false, cond, List, [], ◌∷◌, ◌++◌, length, map, find, slice_get, Option, Some, ap, sym, ◌∙◌, subst}
+use Rattle.std.proofs.Common.{refl, arith, eqb-true, eq-eqb}
 use Rattle.std.proofs.lemmas.Option.{none-some, same_Some, slice_get_within, get_or_from_slice_get, slice_get-get_or}
 use Rattle.dg_model.specs.declared.diagram.Diagram.{Diagram}
 use Rattle.dg_model.specs.declared.diagram.Block.{Block}
@@ -22,7 +23,8 @@ pub found_at : {X : Type 0} (test : X → Bool) (xs : List X) (x : X) → find t
 found_at test [] x e = absurd (none-some x e)
 found_at {X} test (y ∷ ys) x e = go (test y) refl (found_at test ys x) e
   where
-    go : (b : Bool) → test y ≡ b → (find test ys ≡ Some x → (k : ℕ) × (slice_get ys k ≡ Some x) × (test x ≡ true)) → cond b (Some y) (find test ys) ≡ Some x → (k : ℕ) × (slice_get (y ∷ ys) k ≡ Some x) × (test x ≡ true)
+    go : (b : Bool) → test y ≡ b → (find test ys ≡ Some x → (k : ℕ) × (slice_get ys k ≡ Some x) × (test x ≡ true))
+        → cond b (Some y) (find test ys) ≡ Some x → (k : ℕ) × (slice_get (y ∷ ys) k ≡ Some x) × (test x ≡ true)
     go true t rest e = (0, e, subst (λ (z : X). test z ≡ true) (same_Some y x e) t)
     go false t rest e = let r = rest e in (suc r.0, r.1, r.2)
 
@@ -79,7 +81,8 @@ enable_stands place zero (x ∷ xs) b control at same e asks is =
     subst (λ (n : ℕ). (j : ℕ) × (slice_get (enable_edges_from place (x ∷ xs)) j ≡ Some (control_edge control n))) here (
       0,
       get_left (enable_edge place (asks_ever (row_of x.kind).timing.asks) x.enable) (enable_edges_from (suc place) xs) 0 (control_edge control place)
-          (subst (λ (z : Block). slice_get (enable_edge place (asks_ever (row_of z.kind).timing.asks) z.enable) 0 ≡ Some (control_edge control place)) (sym (same_Some x b e)) (own_edge place b control asks is)),
+          (subst (λ (z : Block). slice_get (enable_edge place (asks_ever (row_of z.kind).timing.asks) z.enable) 0
+          ≡ Some (control_edge control place)) (sym (same_Some x b e)) (own_edge place b control asks is)),
     )
 enable_stands place (suc k) (x ∷ xs) b control at same e asks is =
     let r = enable_stands (suc place) k xs b control at (omega (arith, same)) e asks is in
@@ -91,7 +94,9 @@ module _ (diagram : Diagram) (attributes : Attributes) where
   leads k edge e instant = (k, edge, slice_get_within (latency_edges diagram) k edge e, get_or_from_slice_get (latency_edges diagram) k edge edge e, (refl, refl, instant))
 
   -- one leads from what drives a block that reads its inputs in the same sample
-  pub driver_leads : (block : ℕ) (b : Block) (port : ℕ) (edge : Edge) → slice_get diagram.blocks block ≡ Some b → reads_now diagram attributes block b.kind ≡ true → driver_of diagram block port ≡ Some edge → LeadsNow diagram attributes edge.from block
+  pub driver_leads : (block : ℕ) (b : Block) (port : ℕ) (edge : Edge) → slice_get diagram.blocks block ≡ Some b
+      → reads_now diagram attributes block b.kind ≡ true → driver_of diagram block port ≡ Some edge
+      → LeadsNow diagram attributes edge.from block
   driver_leads block b port edge e now driver =
       let f = found_at (enters block port) diagram.edges edge driver in
       let to : edge.to ≡ block = enters_block block port edge f.2 in
@@ -126,7 +131,9 @@ module _ (diagram : Diagram) (attributes : Attributes) (order : List ℕ) (is_or
       let first : place_in order source ≤ j.0 = no_later order j.0 source j.2 in
       omega (arith, j.1, first)
 
-  pub driver_lower : (block : ℕ) (b : Block) (port : ℕ) (edge : Edge) → slice_get diagram.blocks block ≡ Some b → reads_now diagram attributes block b.kind ≡ true → driver_of diagram block port ≡ Some edge → rank edge.from < rank block
+  pub driver_lower : (block : ℕ) (b : Block) (port : ℕ) (edge : Edge) → slice_get diagram.blocks block ≡ Some b
+      → reads_now diagram attributes block b.kind ≡ true → driver_of diagram block port ≡ Some edge
+      → rank edge.from < rank block
   driver_lower block b port edge e now driver = lower edge.from block b e (driver_leads diagram attributes block b port edge e now driver)
 
   pub control_lower : (block : ℕ) (b : Block) (control : ℕ) → slice_get diagram.blocks block ≡ Some b → asks_now b.kind ≡ true → b.enable ≡ Some control → rank control < rank block

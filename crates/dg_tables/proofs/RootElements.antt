@@ -1,5 +1,6 @@
 -- Lists of root elements, port after port.
-use Rattle.std.proofs.Common.{◌≡◌, ℕ, zero, suc, ◌+◌, ◌≤◌, ◌++◌, List, [], ◌∷◌, length, map, filter_map, count_by, Option, Some, None, is_some, slice_get, ap, sym, ◌∙◌, refl, arith, append_assoc, append-nil, add-one}
+use Rattle.std.proofs.Common.{◌≡◌, ℕ, zero, suc, ◌+◌, ◌≤◌, ◌++◌, List, [], ◌∷◌, length, map, filter_map, count_by, Option, Some, None, is_some, slice_get, ap, sym, ◌∙◌, refl, arith, append_assoc}
+use Rattle.std.proofs.Common.{append-nil, add-one}
 use Rattle.std.specs.List.{flat_map, cons_option}
 use Rattle.std.proofs.lemmas.List.{map-append}
 use Rattle.math_list.specs.Numbers.{numbers_from}
@@ -45,9 +46,13 @@ flat_last : (f : ℕ → List RootElement) (from n : ℕ) → flat_map f (number
 flat_last f from zero = let e : from ≡ from + 0 = omega arith in append-nil (f from) ∙ ap f e
 flat_last f from (suc n) =
     let e : suc from + n ≡ from + suc n = omega arith in
-    ap (λ (xs : List RootElement). f from ++ xs) (flat_last f (suc from) n) ∙ sym (append_assoc (f from) (flat_map f (numbers_from (suc from) n)) (f (suc from + n))) ∙ ap (λ (m : ℕ). f from ++ flat_map f (numbers_from (suc from) n) ++ f m) e
+    ap (λ (xs : List RootElement). f from ++ xs) (flat_last f (suc from) n)
+    ∙ sym (append_assoc (f from) (flat_map f (numbers_from (suc from) n)) (f (suc from + n)))
+    ∙ ap (λ (m : ℕ). f from ++ flat_map f (numbers_from (suc from) n) ++ f m) e
 
-pub roots_more : (f : ℕ → List RootElement) (n : ℕ) (roots : List Root) → roots ≡ roots_of (flat_map f (numbers_from 1 n)) ++ roots_of (f (n + 1)) → roots ≡ roots_of (flat_map f (numbers_from 1 (n + 1)))
+pub roots_more : (f : ℕ → List RootElement) (n : ℕ) (roots : List Root)
+    → roots ≡ roots_of (flat_map f (numbers_from 1 n)) ++ roots_of (f (n + 1))
+    → roots ≡ roots_of (flat_map f (numbers_from 1 (n + 1)))
 roots_more f n roots e =
     let one : 1 + n ≡ n + 1 = omega arith in
     rw add-one (e ∙ sym (map-append (λ (e : RootElement). root_at e.number e.block e.element) (flat_map f (numbers_from 1 n)) (f (n + 1)))
@@ -56,7 +61,9 @@ roots_more f n roots e =
 pub port_roots : (attributes : Attributes) (width_of : ℕ → ℕ) (number block width : ℕ) (o : Option ℕ) → o ≡ Some block → width ≡ width_of block
     → map (root_at number block) (numbers_from 0 width) ≡ roots_of (elements_of_port attributes width_of number o)
 port_roots attributes width_of number block width o e w =
-    ap (λ (n : ℕ). map (root_at number block) (numbers_from 0 n)) w ∙ sym (roots_port attributes number block (width_of block)) ∙ ap (λ (o : Option ℕ). roots_of (elements_of_port attributes width_of number o)) (sym e)
+    ap (λ (n : ℕ). map (root_at number block) (numbers_from 0 n)) w
+    ∙ sym (roots_port attributes number block (width_of block))
+    ∙ ap (λ (o : Option ℕ). roots_of (elements_of_port attributes width_of number o)) (sym e)
 
 -- a root input port has an output port
 pub input_shows : (diagram : Diagram) → IsWired diagram → (block : ℕ) (b : Block) (number : ℕ) → slice_get diagram.blocks block ≡ Some b → number_in root_input b ≡ Some number → 1 ≤ b.outputs

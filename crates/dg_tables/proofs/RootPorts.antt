@@ -1,5 +1,6 @@
 -- The root ports of a wired diagram have the numbers from 1 to their count, so that a list by number has each.
-use Rattle.std.proofs.Common.{◌≡◌, ℕ, zero, suc, ◌+◌, ◌-◌, ◌<◌, ◌≤◌, ◌||◌, ◌⊎◌, inl, inr, Bool, true, false, eqb, List, [], ◌∷◌, length, Option, Some, None, slice_get, All, length-set, refl, sym, ap, subst, ◌∙◌, arith}
+use Rattle.std.proofs.Common.{◌≡◌, ℕ, zero, suc, ◌+◌, ◌-◌, ◌<◌, ◌≤◌, ◌||◌, ◌⊎◌, inl, inr, Bool, true, false, eqb, List, [], ◌∷◌, length, Option, Some, None, slice_get, All, length-set, refl, sym, ap}
+use Rattle.std.proofs.Common.{subst, ◌∙◌, arith}
 use Rattle.std.specs.Prelude.{AllPairs, filter_map, slice_index_or, slice_set, ◌≢◌}
 use Rattle.std.specs.List.{cons_option, list_any, position}
 use Rattle.std.proofs.lemmas.Bool.{cases_eq, cases_lt, eqb-true}
@@ -55,9 +56,13 @@ each_number numbers are n from to = elim (found_or_absent n numbers) [
       (AllPairs-cons (λ (x y : ℕ). x ≢ y) n numbers absent are.distinct) in
       let below : All (λ x. x < suc (length numbers)) (zero ∷ n ∷ numbers) =
       All-cons (λ x. x < suc (length numbers)) zero (n ∷ numbers) (omega arith)
-      (All-cons (λ x. x < suc (length numbers)) n numbers (omega (arith, to)) (All-weaker (λ (x : ℕ). (1 ≤ x) × (x ≤ length numbers)) (λ x. x < suc (length numbers)) (λ x within. omega (arith, within.1)) numbers are.within)) in
+      (All-cons (λ x. x < suc (length numbers)) n numbers (omega (arith, to))
+      (All-weaker (λ (x : ℕ). (1 ≤ x) × (x ≤ length numbers)) (λ x. x < suc (length numbers))
+      (λ x within. omega (arith, within.1)) numbers are.within)) in
       let short : suc (suc (length numbers)) ≤ suc (length numbers) =
-      length-le_from_distinct_below (zero ∷ n ∷ numbers) (suc (length numbers)) (IsDistinct-from_AllPairs Decides-eqb (zero ∷ n ∷ numbers) different) (λ q is. any_below q (suc (length numbers)) (zero ∷ n ∷ numbers) below is) in
+      length-le_from_distinct_below (zero ∷ n ∷ numbers) (suc (length numbers))
+      (IsDistinct-from_AllPairs Decides-eqb (zero ∷ n ∷ numbers) different)
+      (λ q is. any_below q (suc (length numbers)) (zero ∷ n ∷ numbers) below is) in
       absurd (omega (arith, short))
 ]
 
@@ -94,7 +99,9 @@ module _ (number_of : Role → Option ℕ) (blocks : List Block) (are : AreNumbe
       (found.0, found.1, is.each found.0 found.1 number (slice_get_within blocks found.0 found.1 found.2) found.2 found.3, found.2, found.3)
 
   pub port_read : (ports : List ℕ) → ArePortsTo number_of blocks (length blocks) ports → (number : ℕ) → IsPortNumber number_of blocks number
-      → (b : Block) × (slice_get blocks (slice_index_or ports (number - 1) 0) ≡ Some b) × (number_in number_of b ≡ Some number) × (position (has_number number_of number) blocks ≡ Some (slice_index_or ports (number - 1) 0))
+      → (b : Block) × (slice_get blocks (slice_index_or ports (number - 1) 0) ≡ Some b)
+      × (number_in number_of b ≡ Some number)
+      × (position (has_number number_of number) blocks ≡ Some (slice_index_or ports (number - 1) 0))
   port_read ports is number within =
       let found = port_there ports is number within in
       let same : slice_index_or ports (number - 1) 0 ≡ found.0 = get_or_from_slice_get ports (number - 1) found.0 0 found.2 in (
@@ -119,7 +126,9 @@ module _ (number_of : Role → Option ℕ) (blocks : List Block) (are : AreNumbe
         sized : length (slice_set ports (number - 1) count) ≡ length (filter_map (number_in number_of) blocks)
         sized = length-set ports (number - 1) count ∙ is.size
 
-        go : (block : ℕ) (c : Block) (other : ℕ) → slice_get blocks block ≡ Some c → number_in number_of c ≡ Some other → (block < count) ⊎ (count ≤ block) → block < count + 1 → slice_get (slice_set ports (number - 1) count) (other - 1) ≡ Some block
+        go : (block : ℕ) (c : Block) (other : ℕ) → slice_get blocks block ≡ Some c
+            → number_in number_of c ≡ Some other → (block < count) ⊎ (count ≤ block) → block < count + 1
+            → slice_get (slice_set ports (number - 1) count) (other - 1) ≡ Some block
         go block c other here is_other (inl before) below =
             let own_within = number_within count b number at own in
             let other_within = number_within block c other here is_other in
@@ -138,7 +147,9 @@ module _ (number_of : Role → Option ℕ) (blocks : List Block) (are : AreNumbe
     ports_same : number_in number_of b ≡ None → ArePortsTo number_of blocks (count + 1) ports
     ports_same none = record { size = is.size; each = λ block c other before here is_other. go block c other here is_other (cases_lt block count) before }
       where
-        go : (block : ℕ) (c : Block) (other : ℕ) → slice_get blocks block ≡ Some c → number_in number_of c ≡ Some other → (block < count) ⊎ (count ≤ block) → block < count + 1 → slice_get ports (other - 1) ≡ Some block
+        go : (block : ℕ) (c : Block) (other : ℕ) → slice_get blocks block ≡ Some c
+            → number_in number_of c ≡ Some other → (block < count) ⊎ (count ≤ block) → block < count + 1
+            → slice_get ports (other - 1) ≡ Some block
         go block c other here is_other (inl before) below = is.each block c other before here is_other
         go block c other here is_other (inr after) below =
             let last : block ≡ count = omega (arith, after, below) in

@@ -10,7 +10,8 @@ use Rattle.fx_type.specs.Conversion.{Stores}
 use Rattle.dg_model.specs.declared.diagram.Diagram.{Diagram}
 use Rattle.dg_model.specs.declared.diagram.Block.{Block}
 use Rattle.dg_model.specs.declared.kind.Kind.{Kind}
-use Rattle.dg_model.specs.declared.kind.Kind.TheVariants.{Inport, Outport, Constant, Ground, Sum, Gain, Product, Switch, Relational, Logic, Convert, Delay, Mux, Demux, RateTransition, Pass, EnableTest, EnOut, Terminator}
+use Rattle.dg_model.specs.declared.kind.Kind.TheVariants.{Inport, Outport, Constant, Ground, Sum, Gain, Product, Switch, Relational, Logic, Convert, Delay, Mux, Demux, RateTransition, Pass}
+use Rattle.dg_model.specs.declared.kind.Kind.TheVariants.{EnableTest, EnOut, Terminator}
 use Rattle.dg_model.specs.declared.op.Op.{Op}
 use Rattle.dg_model.specs.declared.op.Op.TheVariants.{Sum as OpSum, Gain as OpGain, Switch as OpSwitch}
 use Rattle.dg_model.specs.Signals.{Attributes, Stimulus, Table}
@@ -32,7 +33,8 @@ module _ (storing : StoringGivesOne) (at_most : OperationGivesAtMostOne) where
       go None a b = absurd a
       go (Some decimal) a b = let one = storing decimal type valid in one.only v a ∙ sym (one.only w b)
 
-  op_one : (kind : Kind) (element : ℕ) (param control : FxType) (op other : Op) → IsType param → IsType control → IsOpOf kind element param control op → IsOpOf kind element param control other → op ≡ other
+  op_one : (kind : Kind) (element : ℕ) (param control : FxType) (op other : Op) → IsType param → IsType control
+      → IsOpOf kind element param control op → IsOpOf kind element param control other → op ≡ other
   op_one (Sum negative accum) element param control op other p c a b = a ∙ sym b
   op_one (Gain value spec) element param control op other p c a b = a.2 ∙ ap (λ (v : ℤ). OpGain v param) (entry_one value element param a.0 b.0 p a.1 b.1) ∙ sym b.2
   op_one Product element param control op other p c a b = a ∙ sym b
@@ -73,16 +75,41 @@ module _ (storing : StoringGivesOne) (at_most : OperationGivesAtMostOne) where
   module _ (diagram : Diagram) (attributes : Attributes) (rank : ℕ → ℕ) (checked : IsRanked diagram attributes rank) (stimulus : Stimulus) (table : Table)
       (block : ℕ) (b : Block) (block_is : slice_get diagram.blocks block ≡ Some b) (valid : IsType (attributes.type_at block 1)) (t : ℕ) (v w : ℤ)
     where
-      input_one : (initial : List Decimal) (element : ℕ) (hit : Option ℕ) → IsInputAt diagram attributes stimulus table block initial element hit v → IsInputAt diagram attributes stimulus table block initial element hit w → v ≡ w
+      input_one : (initial : List Decimal) (element : ℕ) (hit : Option ℕ)
+          → IsInputAt diagram attributes stimulus table block initial element hit v
+          → IsInputAt diagram attributes stimulus table block initial element hit w → v ≡ w
       input_one initial element None p q = entry_one initial element (attributes.type_at block 1) v w valid p q
       input_one initial element (Some h) p q = p ∙ sym q
 
       element_one : (element : ℕ) → ElementEquation diagram attributes stimulus table b block element t v → ElementEquation diagram attributes stimulus table b block element t w → v ≡ w
       element_one element p q =
-          let e : p.0 ≡ q.0 = op_one b.kind element (attributes.param_at block) (type_into diagram attributes block 2) p.0 q.0 (checked.params block b block_is) (type_into_valid diagram attributes checked.wired checked.types block 2) p.1 q.1 in
-          at_most (record { op = q.0; signs = signs_of b.kind; types = types_into diagram attributes block b.inputs; result = attributes.type_at block 1; rounding = b.rounding; saturate = b.saturate })
-          (values_into diagram attributes table block b.inputs element t) v w valid (op_adds b.kind element (attributes.param_at block) (type_into diagram attributes block 2) q.0 (checked.params block b block_is) q.1)
-          (subst (λ (op : Op). OpGives (record { op = op; signs = signs_of b.kind; types = types_into diagram attributes block b.inputs; result = attributes.type_at block 1; rounding = b.rounding; saturate = b.saturate }) (values_into diagram attributes table block b.inputs element t) v) e p.2)
+          let e : p.0 ≡ q.0 = op_one b.kind element (attributes.param_at block)
+          (type_into diagram attributes block 2) p.0 q.0 (checked.params block b block_is)
+          (type_into_valid diagram attributes checked.wired checked.types block 2) p.1 q.1 in
+          at_most (record {
+            op = q.0;
+            signs = signs_of b.kind;
+            types =
+                types_into diagram attributes block b.inputs;
+            result =
+                attributes.type_at block 1;
+            rounding = b.rounding;
+            saturate = b.saturate;
+          })
+          (values_into diagram attributes table block b.inputs element t) v w valid
+          (op_adds b.kind element (attributes.param_at block) (type_into diagram attributes block 2) q.0
+          (checked.params block b block_is) q.1)
+          (subst (λ (op : Op). OpGives (record {
+            op = op;
+            signs = signs_of b.kind;
+            types =
+                types_into diagram attributes block b.inputs;
+            result = attributes.type_at block 1;
+            rounding =
+                b.rounding;
+            saturate = b.saturate;
+          })
+          (values_into diagram attributes table block b.inputs element t) v) e p.2)
           q.2
 
       mux_one : (element : ℕ) → MuxEquation diagram attributes stimulus table b block element t v → MuxEquation diagram attributes stimulus table b block element t w → v ≡ w
@@ -90,16 +117,24 @@ module _ (storing : StoringGivesOne) (at_most : OperationGivesAtMostOne) where
           let e = parts_one (widths_into diagram attributes block b.inputs) p.0 q.0 p.1 q.1 p.2.signal_is q.2.signal_is p.2.within q.2.within (sym p.2.place ∙ q.2.place) in
           p.3 ∙ ap₂ (λ (signal k : ℕ). value_into diagram attributes table block (suc signal) k t) e.0 e.1 ∙ sym q.3
 
-      rate_one : (initial : List Decimal) (element : ℕ) → RateEquation diagram attributes stimulus table block initial element t v → RateEquation diagram attributes stimulus table block initial element t w → v ≡ w
+      rate_one : (initial : List Decimal) (element : ℕ)
+          → RateEquation diagram attributes stimulus table block initial element t v
+          → RateEquation diagram attributes stimulus table block initial element t w → v ≡ w
       rate_one initial element p q = go (is_slow_to_fast (period_into diagram attributes block 1) (attributes.period_at block)) p q
         where
           go : (b : Bool)
-              → MatchBool b (IsInputAt diagram attributes stimulus table block initial element (slice_get (hits_before (period_into diagram attributes block 1) (suc t)) 1) v) (v ≡ value_into diagram attributes table block 1 element t)
-              → MatchBool b (IsInputAt diagram attributes stimulus table block initial element (slice_get (hits_before (period_into diagram attributes block 1) (suc t)) 1) w) (w ≡ value_into diagram attributes table block 1 element t) → v ≡ w
+              → MatchBool b (IsInputAt diagram attributes stimulus table block initial element
+              (slice_get (hits_before (period_into diagram attributes block 1) (suc t)) 1) v)
+              (v ≡ value_into diagram attributes table block 1 element t)
+              → MatchBool b (IsInputAt diagram attributes stimulus table block initial element
+              (slice_get (hits_before (period_into diagram attributes block 1) (suc t)) 1) w)
+              (w ≡ value_into diagram attributes table block 1 element t) → v ≡ w
           go true p q = input_one initial element (slice_get (hits_before (period_into diagram attributes block 1) (suc t)) 1) p q
           go false p q = p ∙ sym q
 
-      output_one : (reset : Bool) (initial : List Decimal) (element : ℕ) → EnOutEquation diagram attributes stimulus table b block reset initial element t v → EnOutEquation diagram attributes stimulus table b block reset initial element t w → v ≡ w
+      output_one : (reset : Bool) (initial : List Decimal) (element : ℕ)
+          → EnOutEquation diagram attributes stimulus table b block reset initial element t v
+          → EnOutEquation diagram attributes stimulus table b block reset initial element t w → v ≡ w
       output_one false initial element p q = input_one initial element (slice_get (filter (is_enabled table b.enable) (hits_before (attributes.period_at block) (suc t))) 0) p q
       output_one true initial element p q = go (is_enabled table b.enable t) p q
         where
@@ -108,7 +143,9 @@ module _ (storing : StoringGivesOne) (at_most : OperationGivesAtMostOne) where
           go true p q = p ∙ sym q
           go false p q = entry_one initial element (attributes.type_at block 1) v w valid p q
 
-      pub kind_one : (kind : Kind) (port element : ℕ) → KindEquation diagram attributes stimulus table kind b block port element t v → KindEquation diagram attributes stimulus table kind b block port element t w → v ≡ w
+      pub kind_one : (kind : Kind) (port element : ℕ)
+          → KindEquation diagram attributes stimulus table kind b block port element t v
+          → KindEquation diagram attributes stimulus table kind b block port element t w → v ≡ w
       kind_one (Inport number width) port element p q = p ∙ sym q
       kind_one (Constant value) port element p q = entry_one value element (attributes.type_at block 1) v w valid p q
       kind_one Ground port element p q = p ∙ sym q

@@ -1,5 +1,6 @@
 -- Some table solves: it is filled sample by sample, and at a sample in the order of the blocks.
-use Rattle.std.proofs.Common.{◌≡◌, ℕ, zero, suc, ◌<◌, ◌≤◌, ◌⊎◌, inl, inr, Bool, true, false, cond, ◌&&◌, ◌==◌, Option, Some, None, slice_get, MatchOption, ℤ, pos, ap, sym, ◌∙◌, subst, refl, arith, eq-or-lt_of_le, le_of_suc-le-suc, eqb-true, eq-eqb, le_trans}
+use Rattle.std.proofs.Common.{◌≡◌, ℕ, zero, suc, ◌<◌, ◌≤◌, ◌⊎◌, inl, inr, Bool, true, false, cond, ◌&&◌, ◌==◌, Option, Some, None, slice_get, MatchOption, ℤ, pos, ap, sym, ◌∙◌, subst, refl, arith}
+use Rattle.std.proofs.Common.{eq-or-lt_of_le, le_of_suc-le-suc, eqb-true, eq-eqb, le_trans}
 use Rattle.std.proofs.lemmas.Bool.{cases_lt}
 use Rattle.std.proofs.lemmas.Option.{none-some, same_Some}
 use Rattle.fx_type.specs.FxType.{InRange}
@@ -61,7 +62,8 @@ module _ (storing : StoringGivesOne) (exactly : OperationGivesOne) (diagram : Di
 
     -- the table is filled before t, and at t for the blocks of a rank below r
     pub record IsFilled (table : Table) (t r : ℕ) : Type 0 where
-      pub entry : (block : ℕ) (b : Block) (port element s : ℕ) → IsShown diagram attributes block b port element → IsDone t r block s → IsEntry table block b port element s (table block port element s)
+      pub entry : (block : ℕ) (b : Block) (port element s : ℕ) → IsShown diagram attributes block b port element
+          → IsDone t r block s → IsEntry table block b port element s (table block port element s)
 
     module _ (table : Table) (t r : ℕ) (filled : IsFilled table t r) (below : t < n) where
       -- the next entry of a block of rank r
@@ -77,7 +79,13 @@ module _ (storing : StoringGivesOne) (exactly : OperationGivesOne) (diagram : Di
               (checked.types block b 1 shown.block_is (omega arith) (le_trans shown.port_from shown.port_to)) port
               (λ s l input edge e driver from_port element shown. (filled.entry edge.from driver from_port element s shown (inl l)).in_range)
               shown.port_from shown
-              (λ now input edge e driver from_port element shown'. (filled.entry edge.from driver from_port element t shown' (inr (refl, subst (λ (k : ℕ). rank edge.from < k) is_r (checked.drivers block b input edge shown.block_is now e)))).in_range)
+              (λ now input edge e driver from_port element shown'.
+              (filled.entry edge.from driver from_port element t shown'
+              (inr (
+                refl,
+                subst (λ (k : ℕ). rank edge.from < k) is_r
+                    (checked.drivers block b input edge shown.block_is now e),
+              ))).in_range)
               (λ number width is wide. is_stimulus.in_range block b number element t shown.block_is (ap (λ (kind : Kind). root_input (row_of kind).place.role) is) wide below hit) in
               (v.0, record { at_hit = λ _. v.1; between = λ miss. absurd (miss hit); in_range = v.2 })
           go (inr miss) =
@@ -95,18 +103,28 @@ module _ (storing : StoringGivesOne) (exactly : OperationGivesOne) (diagram : Di
               let v = shown_new block b port element shown is_r in
               (v.0, λ c shown' is_r'. subst (λ (c : Block). IsEntry table block c port element t v.0) (same_Some b c (sym e ∙ shown'.block_is)) v.1)
 
-          at_place : (b : Block) → slice_get diagram.blocks block ≡ Some b → (rank block < r) ⊎ (r ≤ rank block) → (r < rank block) ⊎ (rank block ≤ r) → (port < 1) ⊎ (1 ≤ port) → (shown_ports b.kind b.outputs < port) ⊎ (port ≤ shown_ports b.kind b.outputs)
+          at_place : (b : Block) → slice_get diagram.blocks block ≡ Some b → (rank block < r) ⊎ (r ≤ rank block)
+              → (r < rank block) ⊎ (rank block ≤ r) → (port < 1) ⊎ (1 ≤ port)
+              → (shown_ports b.kind b.outputs < port) ⊎ (port ≤ shown_ports b.kind b.outputs)
               → (element < shown_width diagram attributes b.kind block port) ⊎ (shown_width diagram attributes b.kind block port ≤ element) → (v : ℤ) × IsNew block port element v
           at_place b e (inl h) k l m w = none (λ c shown is_r. omega (arith, h, is_r))
           at_place b e (inr h) (inl k) l m w = none (λ c shown is_r. omega (arith, k, is_r))
           at_place b e (inr h) (inr k) (inl l) m w = none (λ c shown is_r. omega (arith, l, shown.port_from))
-          at_place b e (inr h) (inr k) (inr l) (inl m) w = none (λ c shown is_r. let p : port ≤ shown_ports b.kind b.outputs = subst (λ (c : Block). port ≤ shown_ports c.kind c.outputs) (sym (same_Some b c (sym e ∙ shown.block_is))) shown.port_to in omega (arith, m, p))
-          at_place b e (inr h) (inr k) (inr l) (inr m) (inr w) = none (λ c shown is_r. let p : element < shown_width diagram attributes b.kind block port = subst (λ (c : Block). element < shown_width diagram attributes c.kind block port) (sym (same_Some b c (sym e ∙ shown.block_is))) shown.element_below in omega (arith, w, p))
+          at_place b e (inr h) (inr k) (inr l) (inl m) w =
+              none (λ c shown is_r. let p : port ≤ shown_ports b.kind b.outputs =
+              subst (λ (c : Block). port ≤ shown_ports c.kind c.outputs)
+              (sym (same_Some b c (sym e ∙ shown.block_is))) shown.port_to in omega (arith, m, p))
+          at_place b e (inr h) (inr k) (inr l) (inr m) (inr w) =
+              none (λ c shown is_r. let p : element < shown_width diagram attributes b.kind block port =
+              subst (λ (c : Block). element < shown_width diagram attributes c.kind block port)
+              (sym (same_Some b c (sym e ∙ shown.block_is))) shown.element_below in omega (arith, w, p))
           at_place b e (inr h) (inr k) (inr l) (inr m) (inl w) = found b e (record { block_is = e; port_from = l; port_to = m; element_below = w }) (omega (arith, h, k))
 
           at_block : (o : Option Block) → slice_get diagram.blocks block ≡ o → (v : ℤ) × IsNew block port element v
           at_block None e = none (λ c shown is_r. absurd (none-some c (sym e ∙ shown.block_is)))
-          at_block (Some b) e = at_place b e (cases_lt (rank block) r) (cases_lt r (rank block)) (cases_lt port 1) (cases_lt (shown_ports b.kind b.outputs) port) (cases_lt element (shown_width diagram attributes b.kind block port))
+          at_block (Some b) e = at_place b e (cases_lt (rank block) r) (cases_lt r (rank block)) (cases_lt port 1)
+              (cases_lt (shown_ports b.kind b.outputs) port)
+              (cases_lt element (shown_width diagram attributes b.kind block port))
 
       values : ℕ → ℕ → ℕ → ℤ
       values block port element = (cell block port element).0
@@ -115,14 +133,18 @@ module _ (storing : StoringGivesOne) (exactly : OperationGivesOne) (diagram : Di
       more = next rank table t r values
 
       -- an entry stays one in the table with more entries
-      moved : (block : ℕ) (b : Block) (port element s : ℕ) (v w : ℤ) → IsShown diagram attributes block b port element → s ≤ t → (s ≡ t → rank block ≤ r) → w ≡ v → IsEntry table block b port element s v → IsEntry more block b port element s w
+      moved : (block : ℕ) (b : Block) (port element s : ℕ) (v w : ℤ)
+          → IsShown diagram attributes block b port element → s ≤ t → (s ≡ t → rank block ≤ r) → w ≡ v
+          → IsEntry table block b port element s v → IsEntry more block b port element s w
       moved block b port element s v w shown to at same entry = subst (λ (z : ℤ). IsEntry more block b port element s z) (sym same) (record {
         at_hit = λ hit. carried diagram attributes rank checked stimulus table more block b shown.block_is s
             (λ driver k l c p x in'. sym (next_kept rank table t r values driver p x k (inl (omega (arith, l, to)))))
             port element v shown
             (λ driver l c p x in'. sym (next_kept rank table t r values driver p x s (done driver l (eq-or-lt_of_le to))))
             (entry.at_hit hit);
-        between = λ miss. entry.between miss ∙ sym (next_kept rank table t r values block port element (last_hit (attributes.period_at block) s) (inl (earlier (last_before (attributes.period_at block) s miss))));
+        between = λ miss. entry.between miss
+            ∙ sym (next_kept rank table t r values block port element (last_hit (attributes.period_at block) s)
+            (inl (earlier (last_before (attributes.period_at block) s miss))));
         in_range = entry.in_range;
       })
         where
@@ -137,17 +159,26 @@ module _ (storing : StoringGivesOne) (exactly : OperationGivesOne) (diagram : Di
       unfolding values
       more_filled = record { entry = λ block b port element s shown done. go block b port element s shown done }
         where
-          old : (block : ℕ) (b : Block) (port element s : ℕ) → IsShown diagram attributes block b port element → IsDone t r block s → s ≤ t → (s ≡ t → rank block ≤ r) → IsEntry more block b port element s (more block port element s)
+          old : (block : ℕ) (b : Block) (port element s : ℕ) → IsShown diagram attributes block b port element
+              → IsDone t r block s → s ≤ t → (s ≡ t → rank block ≤ r)
+              → IsEntry more block b port element s (more block port element s)
           old block b port element s shown done to at =
-              moved block b port element s (table block port element s) (more block port element s) shown to at (next_kept rank table t r values block port element s done) (filled.entry block b port element s shown done)
+              moved block b port element s (table block port element s) (more block port element s) shown to at
+              (next_kept rank table t r values block port element s done)
+              (filled.entry block b port element s shown done)
 
-          new : (block : ℕ) (b : Block) (port element s : ℕ) → IsShown diagram attributes block b port element → s ≡ t → (rank block ≡ r) ⊎ (rank block < r) → IsEntry more block b port element s (more block port element s)
+          new : (block : ℕ) (b : Block) (port element s : ℕ) → IsShown diagram attributes block b port element
+              → s ≡ t → (rank block ≡ r) ⊎ (rank block < r)
+              → IsEntry more block b port element s (more block port element s)
           new block b port element s shown e (inr l) = old block b port element s shown (inr (e, l)) (omega (arith, e)) (λ _. omega (arith, l))
           new block b port element s shown e (inl f) =
-              moved block b port element s (values block port element) (more block port element s) shown (omega (arith, e)) (λ _. omega (arith, f)) (next_taken rank table t r values block port element s e f)
+              moved block b port element s (values block port element) (more block port element s) shown
+              (omega (arith, e)) (λ _. omega (arith, f))
+              (next_taken rank table t r values block port element s e f)
               (subst (λ (k : ℕ). IsEntry table block b port element k (values block port element)) (sym e) ((cell block port element).1 b shown f))
 
-          go : (block : ℕ) (b : Block) (port element s : ℕ) → IsShown diagram attributes block b port element → IsDone t (suc r) block s → IsEntry more block b port element s (more block port element s)
+          go : (block : ℕ) (b : Block) (port element s : ℕ) → IsShown diagram attributes block b port element
+              → IsDone t (suc r) block s → IsEntry more block b port element s (more block port element s)
           go block b port element s shown (inl l) = old block b port element s shown (inl l) (omega (arith, l)) (λ e. absurd (omega (arith, l, e)))
           go block b port element s shown (inr d) = new block b port element s shown d.0 (eq-or-lt_of_le (le_of_suc-le-suc d.1))
 
@@ -186,7 +217,10 @@ module _ (storing : StoringGivesOne) (exactly : OperationGivesOne) (diagram : Di
         let f = by_sample n (omega arith) in (
           f.0,
           record {
-            at_hits = λ block b port element t shown below hit. subst (λ (o : Option Block). MatchOption o ⊥ (λ (b : Block). KindEquation diagram attributes stimulus f.0 b.kind b block port element t (f.0 block port element t))) (sym shown.block_is)
+            at_hits = λ block b port element t shown below hit. subst
+                (λ (o : Option Block). MatchOption o ⊥
+                (λ (b : Block). KindEquation diagram attributes stimulus f.0 b.kind b block port element t
+                (f.0 block port element t))) (sym shown.block_is)
                 ((f.1.entry block b port element t shown (inl below)).at_hit hit);
             between_hits = λ block b port element t shown below miss. (f.1.entry block b port element t shown (inl below)).between miss;
           },

@@ -29,12 +29,16 @@ module _ (diagram : Diagram) (attributes : Attributes) (block port element : ℕ
     type = ap (λ (o : Option Edge). at_source o Logical attributes.type_at) e;
   }
 
-  pub source_entry : (edge : Edge) → IsWired diagram → driver_of diagram block port ≡ Some edge → IsRead diagram attributes block port element → IsEntry diagram attributes (source_of attributes edge element)
+  pub source_entry : (edge : Edge) → IsWired diagram → driver_of diagram block port ≡ Some edge
+      → IsRead diagram attributes block port element
+      → IsEntry diagram attributes (source_of attributes edge element)
   source_entry edge wired e read =
       source_shown diagram attributes wired block port edge (repeated (attributes.width_at edge.from edge.from_port) element) e
       (subst (λ (o : Option Edge). repeated (at_source o 0 attributes.width_at) element < at_source o 0 attributes.width_at) e read)
 
-pub source_before : (checked : CheckedDiagram) (starts : Starts) (places : List Place) (block port element number : ℕ) (edge : Edge) → Finds checked starts places → driver_of checked.diagram block port ≡ Some edge
+pub source_before : (checked : CheckedDiagram) (starts : Starts) (places : List Place)
+    (block port element number : ℕ) (edge : Edge) → Finds checked starts places
+    → driver_of checked.diagram block port ≡ Some edge
     → slice_get places number ≡ Some (source_of (attributes_of checked.diagram) edge element) → IsBeforeReader checked places block number
 source_before checked starts places block port element number edge finds e there k now =
     let attributes : Attributes = attributes_of checked.diagram in

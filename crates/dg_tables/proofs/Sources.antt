@@ -31,7 +31,8 @@ is_control Role.Control = true
 is_control Role.Plain = false
 
 -- an output port of a block is one that the table shows
-shown_port : (diagram : Diagram) (attributes : Attributes) (kind : Kind) (inputs outputs block port element : ℕ) → HasPorts kind inputs outputs → 1 ≤ port → port ≤ outputs → element < attributes.width_at block port
+shown_port : (diagram : Diagram) (attributes : Attributes) (kind : Kind) (inputs outputs block port element : ℕ)
+    → HasPorts kind inputs outputs → 1 ≤ port → port ≤ outputs → element < attributes.width_at block port
     → (port ≤ shown_ports kind outputs) × (element < shown_width diagram attributes kind block port)
 shown_port diagram attributes (Outport number) inputs outputs block port element ports from to below = absurd (omega (arith, ports.1))
 shown_port diagram attributes _ inputs outputs block port element ports from to below = (to, below)
@@ -48,7 +49,9 @@ module _ (diagram : Diagram) (attributes : Attributes) (wired : IsWired diagram)
       → (b : Block) × IsShown diagram attributes edge.from b edge.from_port element
   source_shown block port edge element e below = go (slice_get diagram.blocks edge.from) refl (find_holds (Joins diagram.blocks) (enters block port) diagram.edges edge wired.edges e).source
     where
-      go : (o : Option Block) → slice_get diagram.blocks edge.from ≡ o → MatchOption o ⊥ (λ b. (1 ≤ edge.from_port) × (edge.from_port ≤ b.outputs)) → (b : Block) × IsShown diagram attributes edge.from b edge.from_port element
+      go : (o : Option Block) → slice_get diagram.blocks edge.from ≡ o
+          → MatchOption o ⊥ (λ b. (1 ≤ edge.from_port) × (edge.from_port ≤ b.outputs))
+          → (b : Block) × IsShown diagram attributes edge.from b edge.from_port element
       go None q h = absurd h
       go (Some b) q h =
           let k = shown_port diagram attributes b.kind b.inputs b.outputs edge.from edge.from_port element (is_readable edge.from b q).ports h.0 h.1 below in
@@ -59,7 +62,9 @@ module _ (diagram : Diagram) (attributes : Attributes) (wired : IsWired diagram)
       (block port : ℕ) → IsType (type_into diagram attributes block port)
   type_into_valid types block port = go (driver_of diagram block port) refl
     where
-      at : (edge : Edge) (o : Option Block) → slice_get diagram.blocks edge.from ≡ o → MatchOption o ⊥ (λ b. (1 ≤ edge.from_port) × (edge.from_port ≤ b.outputs)) → IsType (attributes.type_at edge.from edge.from_port)
+      at : (edge : Edge) (o : Option Block) → slice_get diagram.blocks edge.from ≡ o
+          → MatchOption o ⊥ (λ b. (1 ≤ edge.from_port) × (edge.from_port ≤ b.outputs))
+          → IsType (attributes.type_at edge.from edge.from_port)
       at edge None q h = absurd h
       at edge (Some b) q h = types edge.from b edge.from_port q h.0 (port_shown b.kind b.inputs b.outputs edge.from_port (is_readable edge.from b q).ports h.0 h.1)
 
@@ -71,7 +76,9 @@ module _ (diagram : Diagram) (attributes : Attributes) (wired : IsWired diagram)
   pub control_shown : (widths : (block : ℕ) (b : Block) → slice_get diagram.blocks block ≡ Some b → HasWidths diagram attributes block b.kind b.inputs b.outputs)
       (block : ℕ) (b : Block) (control : ℕ) → slice_get diagram.blocks block ≡ Some b → b.enable ≡ Some control → (c : Block) × IsShown diagram attributes control c 1 0
   control_shown widths block b control e is =
-      go (slice_get diagram.blocks control) refl (subst (λ (o : Option ℕ). NamesControl diagram.blocks o) is (held (λ (x : Block). NamesControl diagram.blocks x.enable) diagram.blocks block b wired.controls e))
+      go (slice_get diagram.blocks control) refl
+      (subst (λ (o : Option ℕ). NamesControl diagram.blocks o) is
+      (held (λ (x : Block). NamesControl diagram.blocks x.enable) diagram.blocks block b wired.controls e))
     where
       by_kind : (kind : Kind) (inputs outputs : ℕ) → is_control (row_of kind).place.role ≡ true → HasPorts kind inputs outputs → HasWidths diagram attributes control kind inputs outputs
           → (1 ≤ shown_ports kind outputs) × (0 < shown_width diagram attributes kind control 1)
@@ -95,24 +102,38 @@ module _ (diagram : Diagram) (attributes : Attributes) (wired : IsWired diagram)
     same_into block port element s agree below = go (driver_of diagram block port) refl below
       where
         go : (o : Option Edge) → driver_of diagram block port ≡ o → repeated (at_source o 0 attributes.width_at) element < at_source o 0 attributes.width_at
-            → at_source o (pos 0) (λ from from_port. table from from_port (repeated (attributes.width_at from from_port) element) s) ≡ at_source o (pos 0) (λ from from_port. other from from_port (repeated (attributes.width_at from from_port) element) s)
+            → at_source o (pos 0) (λ from from_port. table from from_port
+            (repeated (attributes.width_at from from_port) element) s)
+            ≡ at_source o (pos 0) (λ from from_port. other from from_port
+            (repeated (attributes.width_at from from_port) element) s)
         go None e h = refl
         go (Some edge) e h =
             let k = source_shown block port edge (repeated (attributes.width_at edge.from edge.from_port) element) e h in
             agree edge e k.0 edge.from_port (repeated (attributes.width_at edge.from edge.from_port) element) k.1
 
-    pub same_values : (block inputs element s : ℕ) → ((port : ℕ) → 1 ≤ port → port ≤ inputs → SourceAgrees block port s) → ((port : ℕ) → 1 ≤ port → port ≤ inputs → IsRead diagram attributes block port element)
+    pub same_values : (block inputs element s : ℕ)
+        → ((port : ℕ) → 1 ≤ port → port ≤ inputs → SourceAgrees block port s)
+        → ((port : ℕ) → 1 ≤ port → port ≤ inputs → IsRead diagram attributes block port element)
         → values_into diagram attributes table block inputs element s ≡ values_into diagram attributes other block inputs element s
     same_values block inputs element s agree below =
         map_same (λ port. value_into diagram attributes table block port element s) (λ port. value_into diagram attributes other block port element s) 1 inputs
         (λ port from to. let to_end : port ≤ inputs = omega (arith, to) in same_into block port element s (agree port from to_end) (below port from to_end))
 
 -- an elementwise block reads an element of each of its inputs
-pub elements_read : (diagram : Diagram) (attributes : Attributes) (block inputs outputs : ℕ) (kind : Kind) (port element : ℕ) → 1 ≤ port → port ≤ shown_ports kind outputs → element < shown_width diagram attributes kind block port
-    → ((input output : ℕ) → 1 ≤ input → input ≤ inputs → 1 ≤ output → output ≤ shown_ports kind outputs → (width_into diagram attributes block input ≡ 1) ⊎ (width_into diagram attributes block input ≡ shown_width diagram attributes kind block output))
+pub elements_read : (diagram : Diagram) (attributes : Attributes) (block inputs outputs : ℕ) (kind : Kind)
+    (port element : ℕ) → 1 ≤ port → port ≤ shown_ports kind outputs
+    → element < shown_width diagram attributes kind block port
+    → ((input output : ℕ) → 1 ≤ input → input ≤ inputs → 1 ≤ output → output ≤ shown_ports kind outputs
+    → (width_into diagram attributes block input ≡ 1)
+    ⊎ (width_into diagram attributes block input ≡ shown_width diagram attributes kind block output))
     → (input : ℕ) → 1 ≤ input → input ≤ inputs → IsRead diagram attributes block input element
-elements_read diagram attributes block inputs outputs kind port element from to below widths input input_from input_to = below_repeated (width_into diagram attributes block input) element (go (widths input port input_from input_to from to))
+elements_read diagram attributes block inputs outputs kind port element from to below widths input input_from
+    input_to = below_repeated (width_into diagram attributes block input) element
+    (go (widths input port input_from input_to from to))
   where
-    go : (width_into diagram attributes block input ≡ 1) ⊎ (width_into diagram attributes block input ≡ shown_width diagram attributes kind block port) → (width_into diagram attributes block input ≡ 1) ⊎ (element < width_into diagram attributes block input)
+    go : (width_into diagram attributes block input ≡ 1)
+        ⊎ (width_into diagram attributes block input ≡ shown_width diagram attributes kind block port)
+        → (width_into diagram attributes block input ≡ 1)
+        ⊎ (element < width_into diagram attributes block input)
     go (inl e) = inl e
     go (inr e) = inr (subst (λ (n : ℕ). element < n) (sym e) below)

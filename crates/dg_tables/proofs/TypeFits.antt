@@ -1,5 +1,6 @@
 -- The rule of types gives each block types that fit, and an operation that can be prepared.
-use Rattle.std.proofs.Common.{◌≡◌, ℕ, zero, suc, ◌+◌, ◌-◌, ◌<◌, Bool, true, false, true≢false, List, [], ◌∷◌, length, map, zip, All, slice_get, Option, Some, None, IsSome, MatchOption, ℤ, pos, ap, sym, ◌∙◌, subst, subst₂, refl, arith}
+use Rattle.std.proofs.Common.{◌≡◌, ℕ, zero, suc, ◌+◌, ◌-◌, ◌<◌, Bool, true, false, true≢false, List, [], ◌∷◌, length, map, zip, All, slice_get, Option, Some, None, IsSome, MatchOption, ℤ, pos, ap}
+use Rattle.std.proofs.Common.{sym, ◌∙◌, subst, subst₂, refl, arith}
 use Rattle.std.proofs.lemmas.Option.{none-some, same_Some, get_or_from_slice_get}
 use Rattle.std.proofs.lemmas.List.Elements.{All-nil, All-cons}
 use Rattle.fx_type.specs.declared.kind.FxType.{FxType}
@@ -21,7 +22,8 @@ use Rattle.dg_model.specs.declared.kind.Kind.TheVariants.{Outport, Sum, Gain, Pr
 use Rattle.dg_model.specs.declared.kind.Gate.{Gate}
 use Rattle.dg_model.specs.declared.kind.Gate.TheVariants.{Not}
 use Rattle.dg_model.specs.declared.op.Op.{Op}
-use Rattle.dg_model.specs.declared.op.Op.TheVariants.{Sum as OpSum, Gain as OpGain, Product as OpProduct, Switch as OpSwitch, Relational as OpRelational, Logic as OpLogic, Convert as OpConvert, Pass as OpPass}
+use Rattle.dg_model.specs.declared.op.Op.TheVariants.{Sum as OpSum, Gain as OpGain, Product as OpProduct, Switch as OpSwitch, Relational as OpRelational, Logic as OpLogic, Convert as OpConvert}
+use Rattle.dg_model.specs.declared.op.Op.TheVariants.{Pass as OpPass}
 use Rattle.dg_model.specs.KindRow.{FullRule, IsSpec, MayBeFixed, HasOperands}
 use Rattle.dg_model.specs.Library.{row_of}
 use Rattle.dg_model.specs.Readable.{HasPorts, IsReadable}
@@ -132,7 +134,8 @@ module _ (storing : StoringGivesOne) (sums : FullSumIsOne) (products : FullProdu
         sym (result_is kind spec same_kind same_spec (into 1) (ap (λ (spec : TypeSpec). taken_type kind spec inputs) auto ∙ first ∙ input_at 0 some))
 
     -- a port, whose written type is that of its driver
-    of_port : (kind : Kind) (spec : TypeSpec) → kind ≡ b.kind → spec ≡ b.result → MayBeFixed spec → IsDrivers spec inputs → taken_type kind Auto inputs ≡ known_at inputs 0 → 0 < b.inputs → into 1 ≡ result
+    of_port : (kind : Kind) (spec : TypeSpec) → kind ≡ b.kind → spec ≡ b.result → MayBeFixed spec
+        → IsDrivers spec inputs → taken_type kind Auto inputs ≡ known_at inputs 0 → 0 < b.inputs → into 1 ≡ result
     of_port kind (Fixed t) same_kind same_spec may drivers first some =
         let e : known_at inputs 0 ≡ Some t = drivers 0 None (subst (λ (n : ℕ). 0 < n) (sym inputs_length) some) in
         same_Some (into 1) t (sym (input_at 0 some) ∙ e) ∙ sym (result_is kind (Fixed t) same_kind same_spec t refl)
@@ -141,7 +144,8 @@ module _ (storing : StoringGivesOne) (sums : FullSumIsOne) (products : FullProdu
     of_port kind Auto same_kind same_spec may drivers first some = of_input kind Auto same_kind same_spec refl first some
 
     -- ---- blocks that keep the type of their inputs
-    keeps : (kind : Kind) → kind ≡ b.kind → HasPorts kind b.inputs b.outputs → (row_of kind).types.may_be b.result → AgreesWith (row_of kind).place.role b.result inputs → AgreeInside (row_of kind).signal.shape inputs
+    keeps : (kind : Kind) → kind ≡ b.kind → HasPorts kind b.inputs b.outputs → (row_of kind).types.may_be b.result
+        → AgreesWith (row_of kind).place.role b.result inputs → AgreeInside (row_of kind).signal.shape inputs
         → KeepsType diagram (attributes_of diagram) block kind b.inputs b.outputs
     keeps (Delay delay initial reset) same ports may agrees inside = of_input (Delay delay initial reset) b.result same refl may refl (omega (arith, ports.0))
     keeps (RateTransition period initial) same ports may agrees inside = of_input (RateTransition period initial) b.result same refl may refl (omega (arith, ports.0))
@@ -166,7 +170,9 @@ module _ (storing : StoringGivesOne) (sums : FullSumIsOne) (products : FullProdu
     abbrev Prepares : Kind → Op → Type 0
     Prepares kind op = CanPrepare (record { op = op; signs = signs_of kind; types = list; result = result; rounding = b.rounding; saturate = b.saturate })
 
-    prepared : (kind : Kind) (op : Op) → HasArity op b.inputs → HasSigns op (signs_of kind) b.inputs → HasParameters op list → HasResultType op list result → HasFullType op (signs_of kind) list → Prepares kind op
+    prepared : (kind : Kind) (op : Op) → HasArity op b.inputs → HasSigns op (signs_of kind) b.inputs
+        → HasParameters op list → HasResultType op list result → HasFullType op (signs_of kind) list
+        → Prepares kind op
     prepared kind op arity signs parameters result_type full = record {
       arity = subst (λ (n : ℕ). HasArity op n) (sym list_length) arity;
       signs = subst (λ (n : ℕ). HasSigns op (signs_of kind) n) (sym list_length) signs;
@@ -216,13 +222,16 @@ module _ (storing : StoringGivesOne) (sums : FullSumIsOne) (products : FullProdu
         ap (λ (o : Option Block). with_known o (λ x. coefficient_type (row_of x.kind).types.full (known_at inputs 0))) block_is
         ∙ ap (λ (kind : Kind). coefficient_type (row_of kind).types.full (known_at inputs 0)) (sym same)
 
-    full_sum : (negative : List Bool) (accum : TypeSpec) → Sum negative accum ≡ b.kind → IsSpec accum → 0 < b.inputs → Named (FullRule.FullSum negative accum) → HasFullType (OpSum (accumulator accum param)) negative list
+    full_sum : (negative : List Bool) (accum : TypeSpec) → Sum negative accum ≡ b.kind → IsSpec accum → 0 < b.inputs
+        → Named (FullRule.FullSum negative accum) → HasFullType (OpSum (accumulator accum param)) negative list
     full_sum negative accum same spec some named =
         let full = known_some (full_type (FullRule.FullSum negative accum) inputs) named in
         let at : sum_named accum (zip negative list) ≡ Some full.0 = ap (λ (o : Option (List FxType)). with_known o (λ known. sum_named accum (zip negative known))) (sym list_known) ∙ full.1 in
         go accum spec full.0 at (ap or_logical (spec_param negative accum same))
       where
-        go : (accum : TypeSpec) → IsSpec accum → (full : FxType) → sum_named accum (zip negative list) ≡ Some full → param ≡ or_logical (specified_type accum None (known_at inputs 0) None) → HasFullType (OpSum (accumulator accum param)) negative list
+        go : (accum : TypeSpec) → IsSpec accum → (full : FxType) → sum_named accum (zip negative list) ≡ Some full
+            → param ≡ or_logical (specified_type accum None (known_at inputs 0) None)
+            → HasFullType (OpSum (accumulator accum param)) negative list
         go (Fixed type) spec full at is =
             subst (λ (accum : FxType). HaveSteps accum (zip negative list)) (sym is) (steps_full type (zip negative list) full spec (terms-valid negative list list_valid) at)
         go Internal spec full at is = (full, (sums (zip negative list) full (terms-valid negative list list_valid)).1 at)
@@ -246,8 +255,12 @@ module _ (storing : StoringGivesOne) (sums : FullSumIsOne) (products : FullProdu
 
     union : b.inputs ≡ 2 → Named FullRule.UnionOfTwo → (full : FxType) × IsUnion (type_of list 0) (type_of list 1) full
     union size named =
-        let full = known_some (full_type FullRule.UnionOfTwo inputs) named in
-        (full.0, (unions (type_of list 0) (type_of list 1) full.0 (of_list 0 (omega (arith, size))) (of_list 1 (omega (arith, size)))).1 (two union_of 1 full.0 (omega (arith, size)) (omega (arith, size)) full.1))
+        let full = known_some (full_type FullRule.UnionOfTwo inputs) named in (
+          full.0,
+          (unions (type_of list 0) (type_of list 1) full.0 (of_list 0 (omega (arith, size)))
+              (of_list 1 (omega (arith, size)))).1
+              (two union_of 1 full.0 (omega (arith, size)) (omega (arith, size)) full.1),
+        )
 
     -- the type of a Gain's coefficients
     pub param_is : (kind : Kind) → kind ≡ b.kind → param_type_at diagram (types_of diagram) block ≡ coefficient_type (row_of kind).types.full (known_at inputs 0)
@@ -317,7 +330,10 @@ module _ (storing : StoringGivesOne) (sums : FullSumIsOne) (products : FullProdu
         subst (Prepares (Pass width)) (sym is) (prepared (Pass width) OpPass ports.0 tt tt
         (sym (of_port (Pass width) b.result same refl may agrees refl (omega (arith, ports.0))) ∙ sym (list_at 0 (omega (arith, ports.0)))) tt)
     prepares (Sum negative accum) same ports parameters may agrees element op is =
-        subst (Prepares (Sum negative accum)) (sym is) (prepared (Sum negative accum) (OpSum (accumulator accum param)) (omega (arith, ports.0, parameters.0.0), omega (arith, ports.0, parameters.0.1)) (sym ports.0) (accum_valid accum) tt
+        subst (Prepares (Sum negative accum)) (sym is)
+        (prepared (Sum negative accum) (OpSum (accumulator accum param))
+        (omega (arith, ports.0, parameters.0.0), omega (arith, ports.0, parameters.0.1)) (sym ports.0)
+        (accum_valid accum) tt
         (full_sum negative accum same parameters.2 (omega (arith, ports.0, parameters.0.0)) (not_wide (Sum negative accum) same refl)))
       where
         accum_valid : (spec : TypeSpec) → IsAccumulator (accumulator spec param)
@@ -345,5 +361,8 @@ module _ (storing : StoringGivesOne) (sums : FullSumIsOne) (products : FullProdu
         subst (Prepares (Convert stored)) (sym is) (prepared (Convert stored) (OpConvert stored) ports.0 tt tt tt tt)
     prepares _ same ports parameters may agrees element op is = absurd is
 
-    pub operation_prepares : (element : ℕ) (op : Op) → IsOpOf b.kind element ((attributes_of diagram).param_at block) (type_into diagram (attributes_of diagram) block 2) op → CanPrepare (operation_at diagram (attributes_of diagram) block b op)
+    pub operation_prepares : (element : ℕ) (op : Op)
+        → IsOpOf b.kind element ((attributes_of diagram).param_at block)
+        (type_into diagram (attributes_of diagram) block 2) op
+        → CanPrepare (operation_at diagram (attributes_of diagram) block b op)
     operation_prepares element op is = prepares b.kind refl readable.ports readable.parameters readable.result (kept.agree block b block_is).written element op is

@@ -1,5 +1,6 @@
 -- What a block takes for its type stays while more becomes known, and is a valid type.
-use Rattle.std.proofs.Common.{◌≡◌, ℕ, suc, ◌==◌, ◌&&◌, ◌||◌, Bool, true, false, true≢false, cond, MatchBool, List, [], ◌∷◌, zip, All, Option, Some, None, ℤ, pos, negsuc, ◌≤ℤ◌, ap, sym, ◌∙◌, subst, refl, arith, eq-eqb}
+use Rattle.std.proofs.Common.{◌≡◌, ℕ, suc, ◌==◌, ◌&&◌, ◌||◌, Bool, true, false, true≢false, cond, MatchBool, List, [], ◌∷◌, zip, All, Option, Some, None, ℤ, pos, negsuc, ◌≤ℤ◌, ap, sym, ◌∙◌, subst}
+use Rattle.std.proofs.Common.{refl, arith, eq-eqb}
 use Rattle.std.specs.Ordering.{int_eq}
 use Rattle.std.specs.List.{list_all, list_any}
 use Rattle.std.proofs.lemmas.Int.{ints}

@@ -32,7 +32,9 @@ module _ (storing : StoringGivesOne) (at_most : OperationGivesAtMostOne) (diagra
         go (inl hit) =
             let p = of_kind table block b port element t (table block port element t) shown.block_is (solves.at_hits block b port element t shown below hit) in
             let q = of_kind other block b port element t (other block port element t) shown.block_is (solved.at_hits block b port element t shown below hit) in
-            kind_one storing at_most diagram attributes rank checked stimulus other block b shown.block_is (checked.types block b 1 shown.block_is (omega arith) (le_trans shown.port_from shown.port_to)) t (table block port element t) (other block port element t) b.kind port element
+            kind_one storing at_most diagram attributes rank checked stimulus other block b shown.block_is
+            (checked.types block b 1 shown.block_is (omega arith) (le_trans shown.port_from shown.port_to)) t
+            (table block port element t) (other block port element t) b.kind port element
             (carried diagram attributes rank checked stimulus table other block b shown.block_is t before port element (table block port element t) shown lower p) q
         go (inr miss) =
             solves.between_hits block b port element t shown below miss

@@ -1,5 +1,6 @@
 -- The rule of dimensions gives each block widths and lists that fit.
-use Rattle.std.proofs.Common.{◌≡◌, ℕ, suc, ◌+◌, ◌-◌, ◌<◌, ◌≤◌, ◌⊎◌, inl, inr, min, Bool, true, false, if◌then◌else◌, List, [], ◌∷◌, length, map, sum, All, slice_get, slice_index_or, Option, Some, ap, sym, ◌∙◌, subst, refl, arith}
+use Rattle.std.proofs.Common.{◌≡◌, ℕ, suc, ◌+◌, ◌-◌, ◌<◌, ◌≤◌, ◌⊎◌, inl, inr, min, Bool, true, false, if◌then◌else◌, List, [], ◌∷◌, length, map, sum, All, slice_get, slice_index_or, Option, Some, ap}
+use Rattle.std.proofs.Common.{sym, ◌∙◌, subst, refl, arith}
 use Rattle.std.proofs.Math.Nat.{min-eq_left, min-eq_right}
 use Rattle.std.proofs.lemmas.Bool.{cases_lt}
 use Rattle.std.proofs.lemmas.Option.{get_or_from_slice_get, slice_get-get_or}
@@ -28,7 +29,8 @@ use Rattle.std.proofs.lemmas.List.{length-map}
 pub listed : (xs : List ℕ) → map (λ port. slice_index_or xs (port - 1) 0) (numbers_from 1 (length xs)) ≡ xs
 listed xs = same_places (map (λ port. slice_index_or xs (port - 1) 0) (numbers_from 1 (length xs))) xs (length_mapped (λ port. slice_index_or xs (port - 1) 0) 1 (length xs)) here
   where
-    here : (k : ℕ) → k < length (map (λ port. slice_index_or xs (port - 1) 0) (numbers_from 1 (length xs))) → slice_get (map (λ port. slice_index_or xs (port - 1) 0) (numbers_from 1 (length xs))) k ≡ slice_get xs k
+    here : (k : ℕ) → k < length (map (λ port. slice_index_or xs (port - 1) 0) (numbers_from 1 (length xs)))
+        → slice_get (map (λ port. slice_index_or xs (port - 1) 0) (numbers_from 1 (length xs))) k ≡ slice_get xs k
     here k below =
         let within : k < length xs = subst (λ (n : ℕ). k < n) (length_mapped (λ port. slice_index_or xs (port - 1) 0) 1 (length xs)) below in
         let same : 1 + k - 1 ≡ k = omega arith in
@@ -73,7 +75,8 @@ module _ (diagram : Diagram) (wired : IsWired diagram) (dimensions : KeepsDimens
   settled : Settled (row_of b.kind).signal.shape b.kind
   settled = subst (λ (o : Option Block). next_of o (width_at (widths_of diagram) block 1) inputs ≡ own) block_is keeps.settled
 
-  repeated_at : All (IsRepeated (slice_index_or own 0 0)) inputs → (input : ℕ) → 1 ≤ input → input ≤ b.inputs → IsRepeated (slice_index_or own 0 0) (width_into diagram (attributes_of diagram) block input)
+  repeated_at : All (IsRepeated (slice_index_or own 0 0)) inputs → (input : ℕ) → 1 ≤ input → input ≤ b.inputs
+      → IsRepeated (slice_index_or own 0 0) (width_into diagram (attributes_of diagram) block input)
   repeated_at all input from to =
       let below : input - 1 < b.inputs = omega (arith, from, to) in
       let port : suc (input - 1) ≡ input = omega (arith, from) in
@@ -81,9 +84,13 @@ module _ (diagram : Diagram) (wired : IsWired diagram) (dimensions : KeepsDimens
       (all (input - 1) 0 (subst (λ (n : ℕ). input - 1 < n) (sym inputs_length) below))
 
   one_output : All (IsRepeated (slice_index_or own 0 0)) inputs → ((output : ℕ) → 1 ≤ output → output ≤ b.outputs → output ≡ 1)
-      → (input output : ℕ) → 1 ≤ input → input ≤ b.inputs → 1 ≤ output → output ≤ b.outputs → IsRepeated (width_at (widths_of diagram) block output) (width_into diagram (attributes_of diagram) block input)
+      → (input output : ℕ) → 1 ≤ input → input ≤ b.inputs → 1 ≤ output → output ≤ b.outputs
+      → IsRepeated (width_at (widths_of diagram) block output)
+      (width_into diagram (attributes_of diagram) block input)
   one_output all one input output from to output_from output_to =
-      subst (λ (n : ℕ). IsRepeated (width_at (widths_of diagram) block n) (width_into diagram (attributes_of diagram) block input)) (sym (one output output_from output_to)) (repeated_at all input from to)
+      subst (λ (n : ℕ). IsRepeated (width_at (widths_of diagram) block n)
+      (width_into diagram (attributes_of diagram) block input)) (sym (one output output_from output_to))
+      (repeated_at all input from to)
 
   first_own : (xs : List ℕ) → xs ≡ own → slice_index_or xs 0 0 ≡ width_at (widths_of diagram) block 1
   first_own xs e = ap (λ (list : List ℕ). slice_index_or list 0 0) e
@@ -96,7 +103,9 @@ module _ (diagram : Diagram) (wired : IsWired diagram) (dimensions : KeepsDimens
       sym first ∙ uncut (sum inputs) (omega (arith, first, small)) ∙ ap (λ (list : List ℕ). sum list) (sym widths_listed)
 
   parts_length : (sizes : List ℕ) (kind : Kind) → Settled (Shape.Parted sizes) kind → length own ≡ length sizes
-  parts_length sizes kind e = sym (ap (λ (list : List ℕ). length list) e) ∙ length-map (taken (Shape.Parted sizes) (list_length kind) (width_at (widths_of diagram) block 1) inputs) (min most_width) ∙ go (are_open sizes)
+  parts_length sizes kind e = sym (ap (λ (list : List ℕ). length list) e)
+      ∙ length-map (taken (Shape.Parted sizes) (list_length kind) (width_at (widths_of diagram) block 1) inputs)
+      (min most_width) ∙ go (are_open sizes)
     where
       go : (open_sizes : Bool) → length (if open_sizes then map (share (slice_index_or inputs 0 0) (length sizes)) (numbers_from 0 (length sizes)) else sizes) ≡ length sizes
       go true = length_mapped (share (slice_index_or inputs 0 0) (length sizes)) 0 (length sizes)
@@ -108,7 +117,9 @@ module _ (diagram : Diagram) (wired : IsWired diagram) (dimensions : KeepsDimens
       width_into_at 0 (omega (arith, one)) ∙ e
       ∙ ap (λ (list : List ℕ). sum list) (sym (subst (λ (n : ℕ). map (width_at (widths_of diagram) block) (numbers_from 1 n) ≡ own) size (listed own)))
 
-  fits : (kind : Kind) → HasPorts kind b.inputs b.outputs → Agrees (row_of kind).signal.shape own inputs → Settled (row_of kind).signal.shape kind → HasWidths diagram (attributes_of diagram) block kind b.inputs b.outputs
+  fits : (kind : Kind) → HasPorts kind b.inputs b.outputs → Agrees (row_of kind).signal.shape own inputs
+      → Settled (row_of kind).signal.shape kind
+      → HasWidths diagram (attributes_of diagram) block kind b.inputs b.outputs
   fits (Outport number) ports agrees e = λ input output from to output_from output_to.
       let one : 1 ≡ input = omega (arith, ports.0, from, to) in inr (ap (λ (n : ℕ). width_into diagram (attributes_of diagram) block n) (sym one))
   fits (Mux sizes) ports agrees e = joined sizes (omega (arith, ports.1)) e

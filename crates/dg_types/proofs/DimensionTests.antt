@@ -23,7 +23,9 @@ each_repeated : (own : ℕ) (widths : List ℕ) → Decides (are_repeated own wi
 each_repeated own widths = Decides-by_and (is_repeated own) (IsRepeated own) (list_all (is_repeated own)) (repeated own) refl (λ _ _. refl) widths
 
 lists_decide : (own : ℕ) (lists : List (List Decimal)) → Decides (lists_fit own lists) (All (λ list. IsRepeated own (length list)) lists)
-lists_decide own lists = Decides-by_and (λ list. is_repeated own (length list)) (λ list. IsRepeated own (length list)) (list_all (λ list. is_repeated own (length list))) (λ list. repeated own (length list)) refl (λ _ _. refl) lists
+lists_decide own lists = Decides-by_and (λ list. is_repeated own (length list))
+    (λ list. IsRepeated own (length list)) (list_all (λ list. is_repeated own (length list)))
+    (λ list. repeated own (length list)) refl (λ _ _. refl) lists
 
 is_small : (width : ℕ) → Decides (nat_le width 1024) (width ≤ 1024)
 is_small width = (λ h. grind (arith, nat_tests), λ h. grind (arith, nat_tests))
@@ -49,7 +51,9 @@ agree_decides : (shape : Shape) (outputs inputs : List ℕ) → Decides (agrees 
 agree_decides Shape.Elementwise outputs inputs = each_repeated (get_or outputs 0 0) inputs
 agree_decides (Shape.Joined []) outputs inputs = (λ h. tt, λ h. refl)
 agree_decides (Shape.Joined (size ∷ sizes)) outputs inputs =
-    Decides-like (has_sizes (size ∷ sizes) inputs) to inr (Decides-or (length (size ∷ sizes) == 0) (bytes_eq inputs (size ∷ sizes)) (Decides-eqb (length (size ∷ sizes)) 0) (bytes_eq-Decides inputs (size ∷ sizes))) where
+    Decides-like (has_sizes (size ∷ sizes) inputs) to inr
+    (Decides-or (length (size ∷ sizes) == 0) (bytes_eq inputs (size ∷ sizes))
+    (Decides-eqb (length (size ∷ sizes)) 0) (bytes_eq-Decides inputs (size ∷ sizes))) where
       to : (length (size ∷ sizes) ≡ 0) ⊎ (inputs ≡ size ∷ sizes) → inputs ≡ size ∷ sizes
       to (inl none) = absurd (omega arith)
       to (inr same) = same

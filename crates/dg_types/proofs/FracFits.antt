@@ -1,5 +1,6 @@
 -- A decimal is in range at a frac exactly where its fraction is a number of so many bits; where it is so, it is so at each lesser frac.
-use Rattle.std.proofs.Common.{◌≡◌, ℕ, ◌+◌, ◌-◌, ◌*◌, ◌^◌, ◌<◌, ◌≤◌, Bool, true, false, ℤ, pos, negsuc, neg_ℤ, ◌≤ℤ◌, ap, sym, ◌∙◌, refl, subst, arith, pow_pos, pow_mono, mul-le-mul_left, inl, inr, true≢false}
+use Rattle.std.proofs.Common.{◌≡◌, ℕ, ◌+◌, ◌-◌, ◌*◌, ◌^◌, ◌<◌, ◌≤◌, Bool, true, false, ℤ, pos, negsuc, neg_ℤ, ◌≤ℤ◌, ap, sym, ◌∙◌, refl, subst, arith, pow_pos, pow_mono, mul-le-mul_left, inl, inr}
+use Rattle.std.proofs.Common.{true≢false}
 use Rattle.std.specs.Prelude.{nat_le, nat_lt}
 use Rattle.std.specs.Int.{int_gap}
 use Rattle.std.specs.Cmp.Derive.{both_true}
@@ -65,7 +66,8 @@ up_range type bits c p q r some top t =
       high = omega (arith, ints, top.high, up_from p q c r some t (omega (arith, e, ltb-true (2 * p + q) (2 ^ bits * q) h)));
     }))
 
-down_range : (w : ℕ) (f : ℤ) (c p q : ℕ) (r : ℤ) → 0 < q → lowest_of (Num true w f) ≡ neg_ℤ (pos (c + 1)) → 2 ^ w ≡ 2 * (c + 1) → RoundsTiesUp (neg_ℤ (pos p)) q r → is_in_range (Num true w f) r ≡ is_within true w p q
+down_range : (w : ℕ) (f : ℤ) (c p q : ℕ) (r : ℤ) → 0 < q → lowest_of (Num true w f) ≡ neg_ℤ (pos (c + 1))
+    → 2 ^ w ≡ 2 * (c + 1) → RoundsTiesUp (neg_ℤ (pos p)) q r → is_in_range (Num true w f) r ≡ is_within true w p q
 down_range w f c p q r some low power t =
     let type = Num true w f in
     let d = Decides-in_range (Num true w f) r in
@@ -90,9 +92,14 @@ range_is true false w f p q r some word sign t = absurd (true≢false (sym (sign
 -- ---- decimals
 
 pub fits_is : (d : Decimal) (signed : Bool) (w : ℕ) (f : ℤ) → IsWord w signed → (d.negative ≡ true → signed ≡ true)
-    → is_in_range (Num signed w f) (rounded_of d f) ≡ is_within d.negative (bits_of signed w) (d.digits * 10 ^ int_gap (pos 0) d.exponent * 2 ^ int_gap (pos 0) f) (10 ^ int_gap d.exponent (pos 0) * 2 ^ int_gap f (pos 0))
+    → is_in_range (Num signed w f) (rounded_of d f)
+    ≡ is_within d.negative (bits_of signed w)
+    (d.digits * 10 ^ int_gap (pos 0) d.exponent * 2 ^ int_gap (pos 0) f)
+    (10 ^ int_gap d.exponent (pos 0) * 2 ^ int_gap f (pos 0))
 fits_is d signed w f word sign =
-    range_is d.negative signed w f (d.digits * 10 ^ int_gap (pos 0) d.exponent * 2 ^ int_gap (pos 0) f) (10 ^ int_gap d.exponent (pos 0) * 2 ^ int_gap f (pos 0)) (rounded_of d f) (unit_positive d f) word sign (rounded_rounds d f)
+    range_is d.negative signed w f (d.digits * 10 ^ int_gap (pos 0) d.exponent * 2 ^ int_gap (pos 0) f)
+    (10 ^ int_gap d.exponent (pos 0) * 2 ^ int_gap f (pos 0)) (rounded_of d f) (unit_positive d f) word sign
+    (rounded_rounds d f)
 
 zero_rounds : (negative : Bool) (p q : ℕ) (r : ℤ) → 0 < q → p ≡ 0 → RoundsTiesUp (signed_digits negative p) q r → r ≡ pos 0
 zero_rounds false p q r some e t =
@@ -142,9 +149,16 @@ pub step_mono : (d : Decimal) (signed : Bool) (w k j : ℕ) → IsWord w signed 
 step_mono d signed w k j word sign more h = elim (cases_lt 0 d.digits) [
   | inl some ↦
       let s = some_negative d signed some sign in
-      let a : 2 ^ int_gap (pos 0) (frac_down j) ≤ 2 ^ int_gap (pos 0) (frac_down k) = (let g : int_gap (pos 0) (frac_down j) ≤ int_gap (pos 0) (frac_down k) = omega (arith, up_gap j, up_gap k) in pow_mono g) in
-      let b : 2 ^ int_gap (frac_down k) (pos 0) ≤ 2 ^ int_gap (frac_down j) (pos 0) = (let g : int_gap (frac_down k) (pos 0) ≤ int_gap (frac_down j) (pos 0) = omega (arith, down_gap j, down_gap k) in pow_mono g) in
+      let a : 2 ^ int_gap (pos 0) (frac_down j) ≤ 2 ^ int_gap (pos 0) (frac_down k) =
+      (let g : int_gap (pos 0) (frac_down j) ≤ int_gap (pos 0) (frac_down k) =
+      omega (arith, up_gap j, up_gap k) in pow_mono g) in
+      let b : 2 ^ int_gap (frac_down k) (pos 0) ≤ 2 ^ int_gap (frac_down j) (pos 0) =
+      (let g : int_gap (frac_down k) (pos 0) ≤ int_gap (frac_down j) (pos 0) =
+      omega (arith, down_gap j, down_gap k) in pow_mono g) in
       fits_is d signed w (frac_down j) word s
-      ∙ within_mono d.negative (bits_of signed w) _ _ _ _ (mul-le-mul_left (d.digits * 10 ^ int_gap (pos 0) d.exponent) a) (mul-le-mul_left (10 ^ int_gap d.exponent (pos 0)) b) (sym (fits_is d signed w (frac_down k) word s) ∙ h)
+      ∙ within_mono d.negative (bits_of signed w) _ _ _ _
+      (mul-le-mul_left (d.digits * 10 ^ int_gap (pos 0) d.exponent) a)
+      (mul-le-mul_left (10 ^ int_gap d.exponent (pos 0)) b)
+      (sym (fits_is d signed w (frac_down k) word s) ∙ h)
   | inr none ↦ zero_fits d signed w (frac_down j) (omega arith)
 ]

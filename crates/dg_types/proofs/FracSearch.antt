@@ -52,18 +52,22 @@ front_fails p xs i e = elim (cases_Bool (list_all p xs)) [
 
 -- ---- the steps of a list
 
-all_mono : (value : List Decimal) (signed : Bool) (w k j : ℕ) → IsWord w signed → All (HasSign signed) value → k ≤ j → list_all (λ d. at_step d signed w k) value ≡ true → list_all (λ d. at_step d signed w j) value ≡ true
+all_mono : (value : List Decimal) (signed : Bool) (w k j : ℕ) → IsWord w signed → All (HasSign signed) value → k ≤ j
+    → list_all (λ d. at_step d signed w k) value ≡ true → list_all (λ d. at_step d signed w j) value ≡ true
 all_mono [] signed w k j word signs more e = refl
 all_mono (x ∷ xs) signed w k j word signs more e =
     let both = and_parts (at_step x signed w k) (list_all (λ d. at_step d signed w k) xs) e in
     both_true (step_mono x signed w k j word (signs 0 x (omega arith)) more both.0) (all_mono xs signed w k j word (λ i d inside. signs (suc i) d (omega arith)) more both.1)
 
 -- one more element
-pub lowered_more : (value : List Decimal) (signed : Bool) (w i steps next : ℕ) (d : Decimal) → IsWord w signed → All (HasSign signed) (take i value) → i < length value → IsLowered (take i value) signed w steps
+pub lowered_more : (value : List Decimal) (signed : Bool) (w i steps next : ℕ) (d : Decimal) → IsWord w signed
+    → All (HasSign signed) (take i value) → i < length value → IsLowered (take i value) signed w steps
     → find (at_step (get_or value i d) signed w) (range_with_len steps (193 - steps)) ≡ Some next → IsLowered (take (i + 1) value) signed w next
 lowered_more value signed w i steps next d word signs inside lowered e =
     let first = found (at_step (get_or value i d) signed w) steps (193 - steps) next e in
-    let here : (k : ℕ) → list_all (λ x. at_step x signed w k) (take (i + 1) value) ≡ (list_all (λ x. at_step x signed w k) (take i value) && at_step (get_or value i d) signed w k) = λ k. list_all_more (λ x. at_step x signed w k) value i d inside in
+    let here : (k : ℕ) → list_all (λ x. at_step x signed w k) (take (i + 1) value)
+    ≡ (list_all (λ x. at_step x signed w k) (take i value) && at_step (get_or value i d) signed w k) =
+    λ k. list_all_more (λ x. at_step x signed w k) value i d inside in
     record {
       few = omega (arith, first.high, lowered.few);
       fits = here next ∙ both_true (all_mono (take i value) signed w steps next word signs first.low lowered.fits) first.passes;
@@ -86,4 +90,11 @@ lowered_stops n value signed w i steps d inside few lowered e =
 -- the whole list
 pub lowered_whole : (n : ℕ) (value : List Decimal) (signed : Bool) (w steps : ℕ) → steps < n → IsLowered value signed w steps → greatest_among n value signed w ≡ Some (frac_down steps)
 lowered_whole n value signed w steps few lowered =
-    ap (option_map frac_down) (first_found (λ k. list_all (λ x. at_step x signed w k) value) n steps (record { passes = lowered.fits; low = omega arith; high = omega arith; first = λ j low less. lowered.before j less }))
+    ap (option_map frac_down) (first_found (λ k. list_all (λ x. at_step x signed w k) value) n steps
+    (record {
+      passes = lowered.fits;
+      low =
+          omega arith;
+      high = omega arith;
+      first = λ j low less. lowered.before j less;
+    }))

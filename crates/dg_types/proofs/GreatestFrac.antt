@@ -26,7 +26,9 @@ greatest_some value signed w steps lowered = greatest_is value signed w ∙ lowe
 
 -- the internal rule by its parts
 pub internal_is : (value : List Decimal) (input : FxType) → internal_param value input
-    ≡ option_map (Num (is_param_signed value input) (param_width value input)) (cond (list_all is_zero value) (Some (pos 0)) (greatest_fit value (is_param_signed value input) (param_width value input)))
+    ≡ option_map (Num (is_param_signed value input) (param_width value input))
+    (cond (list_all is_zero value) (Some (pos 0))
+    (greatest_fit value (is_param_signed value input) (param_width value input)))
 unfolding internal_param greatest_fit
 internal_is value input = refl
 
@@ -83,5 +85,7 @@ module _ (value : List Decimal) (input : FxType) (signed : Bool) (width : ℕ) (
       let g : greatest_fit value (is_param_signed value input) (param_width value input) ≡ Some frac = sym same_fit ∙ sym e in
       rw (s, w) (sym (internal_is value input ∙ rw (z, g) refl))
 
-pub width_is : (value : List Decimal) (input : FxType) (signed : Bool) (own width : ℕ) → signed ≡ is_param_signed value input → own ≡ width_of input → width ≡ cond (signed && (own == 1)) 2 own → width ≡ param_width value input
+pub width_is : (value : List Decimal) (input : FxType) (signed : Bool) (own width : ℕ)
+    → signed ≡ is_param_signed value input → own ≡ width_of input → width ≡ cond (signed && (own == 1)) 2 own
+    → width ≡ param_width value input
 width_is value input signed own width s o w = w ∙ ap (λ (b : Bool). cond (b && (own == 1)) 2 own) s ∙ ap (λ (n : ℕ). cond (is_param_signed value input && (n == 1)) 2 n) o

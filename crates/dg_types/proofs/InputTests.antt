@@ -22,10 +22,12 @@ each P (x ∷ xs) holds (suc k) d inside = each P xs (λ j i. holds (suc j) (ome
 pub length_sources : (values : Types) (sources : List Source) → length (source_types values sources) ≡ length sources
 length_sources values sources = length-map sources (λ (source : Source). known_at values source.block)
 
-pub all_inputs : (P : Option FxType → Type 0) (values : Types) (sources : List Source) (n : ℕ) → length sources ≤ n → ((k : ℕ) → k < n → P (known_at (source_types values sources) k)) → All P (source_types values sources)
+pub all_inputs : (P : Option FxType → Type 0) (values : Types) (sources : List Source) (n : ℕ) → length sources ≤ n
+    → ((k : ℕ) → k < n → P (known_at (source_types values sources) k)) → All P (source_types values sources)
 all_inputs P values sources n past holds = each P (source_types values sources) (λ k inside. holds k (omega (arith, length_sources values sources)))
 
-pub at_input : (P : Option FxType → Type 0) (values : Types) (sources : List Source) (k : ℕ) (d : Source) → k < length sources → All P (source_types values sources) → P (known_at values (get_or sources k d).block)
+pub at_input : (P : Option FxType → Type 0) (values : Types) (sources : List Source) (k : ℕ) (d : Source)
+    → k < length sources → All P (source_types values sources) → P (known_at values (get_or sources k d).block)
 at_input P values sources k d inside all = subst P (source_at values sources k d inside) (all k None (omega (arith, length_sources values sources)))
 
 -- all are the first

@@ -1,5 +1,6 @@
 -- Rows that are filled edge by edge hold the readers of a diagram, and with the sources they are its links.
-use Rattle.std.proofs.Common.{◌≡◌, ℕ, zero, suc, ◌+◌, ◌<◌, ◌≤◌, Bool, true, false, List, [], ◌∷◌, ◌++◌, length, replicate, map, filter, cond, set, All, Some, Option, get_or, eqb, refl, sym, ap, subst, ◌∙◌, inl, inr, arith, append-nil}
+use Rattle.std.proofs.Common.{◌≡◌, ℕ, zero, suc, ◌+◌, ◌<◌, ◌≤◌, Bool, true, false, List, [], ◌∷◌, ◌++◌, length, replicate, map, filter, cond, set, All, Some, Option, get_or, eqb, refl, sym, ap, subst}
+use Rattle.std.proofs.Common.{◌∙◌, inl, inr, arith, append-nil}
 use Rattle.std.specs.Prelude.{slice_get, unwrap_or, ◌==◌}
 use Rattle.std.proofs.lemmas.Bool.{cases_eq, cases_lt, cases_Bool, eqb-true, eqb-false}
 use Rattle.std.proofs.lemmas.Bool.Decides.{Decides-by_and, Decides-eqb, nat_tests}
@@ -38,17 +39,24 @@ noted_other rows at reader k other = get_or-set_other rows at k (get_or rows at 
 still_in : (rows : List (List ℕ)) (at reader k old : ℕ) → at < length rows → is_in old (get_or rows k []) ≡ true → is_in old (get_or (noted rows at reader) k []) ≡ true
 still_in rows at reader k old inside is =
     elim (cases_eq k at) [
-      | inl same ↦ subst (λ (j : ℕ). is_in old (get_or (noted rows at reader) j []) ≡ true) (sym same) (rw (noted_here rows at reader inside) (is_in_push (get_or rows at []) reader old (subst (λ (j : ℕ). is_in old (get_or rows j []) ≡ true) same is)))
+      | inl same ↦ subst (λ (j : ℕ). is_in old (get_or (noted rows at reader) j []) ≡ true) (sym same)
+          (rw (noted_here rows at reader inside)
+          (is_in_push (get_or rows at []) reader old
+          (subst (λ (j : ℕ). is_in old (get_or rows j []) ≡ true) same is)))
       | inr other ↦ rw (noted_other rows at reader k other) is
     ]
 
 now_in : (rows : List (List ℕ)) (at reader : ℕ) → at < length rows → is_in reader (get_or (noted rows at reader) at []) ≡ true
 now_in rows at reader inside = rw (noted_here rows at reader inside) (is_in_last (get_or rows at []) reader reader refl)
 
-still_there : (count : ℕ) (rows : List (List ℕ)) (at reader : ℕ) → at < length rows → reader < count → ((k : ℕ) → All (λ r. r < count) (get_or rows k [])) → (k : ℕ) → All (λ r. r < count) (get_or (noted rows at reader) k [])
+still_there : (count : ℕ) (rows : List (List ℕ)) (at reader : ℕ) → at < length rows → reader < count
+    → ((k : ℕ) → All (λ r. r < count) (get_or rows k [])) → (k : ℕ)
+    → All (λ r. r < count) (get_or (noted rows at reader) k [])
 still_there count rows at reader inside few before k =
     elim (cases_eq k at) [
-      | inl same ↦ subst (λ (j : ℕ). All (λ (r : ℕ). r < count) (get_or (noted rows at reader) j [])) (sym same) (rw (noted_here rows at reader inside) (all_push (λ r. r < count) (get_or rows at []) reader (before at) few))
+      | inl same ↦ subst (λ (j : ℕ). All (λ (r : ℕ). r < count) (get_or (noted rows at reader) j [])) (sym same)
+          (rw (noted_here rows at reader inside)
+          (all_push (λ r. r < count) (get_or rows at []) reader (before at) few))
       | inr other ↦ rw (noted_other rows at reader k other) (before k)
     ]
 
@@ -138,7 +146,10 @@ row_from : (P : Source → Type 0) (f : Edge → Source) (to : ℕ) (edges : Lis
     (k : ℕ) (y : Source) → slice_get (map f (filter (λ edge. edge.to == to) edges)) k ≡ Some y → P y
 row_from P f to [] all k y at = absurd (none-some y at)
 row_from P f to (x ∷ xs) all k y at = go (eqb x.to to) refl (row_from P f to xs (λ j edge e same. all (suc j) edge e same)) k at where
-  go : (b : Bool) → eqb x.to to ≡ b → ((i : ℕ) (z : Source) → slice_get (map f (filter (λ edge. edge.to == to) xs)) i ≡ Some z → P z) → (i : ℕ) → slice_get (map f (cond b (x ∷ filter (λ edge. edge.to == to) xs) (filter (λ edge. edge.to == to) xs))) i ≡ Some y → P y
+  go : (b : Bool) → eqb x.to to ≡ b → ((i : ℕ) (z : Source)
+      → slice_get (map f (filter (λ edge. edge.to == to) xs)) i ≡ Some z → P z) → (i : ℕ)
+      → slice_get (map f (cond b (x ∷ filter (λ edge. edge.to == to) xs) (filter (λ edge. edge.to == to) xs))) i
+      ≡ Some y → P y
   go true e later zero here = subst P (same_Some (f x) y here) (all 0 x refl (eqb-true x.to to e))
   go true e later (suc i) here = later i y here
   go false e later i here = later i y here
@@ -150,7 +161,9 @@ no_row : (rows : List (List Source)) (k : ℕ) → length rows ≤ k → get_or 
 no_row rows k past = sym (unwrap_or-slice_get rows k []) ∙ ap (λ (o : Option (List Source)). unwrap_or o []) (slice_get_past rows k past)
 
 -- the entries of the row of any block
-entries : (P : Source → Type 0) (blocks : List Block) (edges : List Edge) (rows : List (List Source)) (block : ℕ) → Gathered (length blocks) (source_of blocks) edges rows → ((j : ℕ) (edge : Edge) → slice_get edges j ≡ Some edge → edge.to ≡ block → P (source_of blocks edge)) →
+entries : (P : Source → Type 0) (blocks : List Block) (edges : List Edge) (rows : List (List Source)) (block : ℕ)
+    → Gathered (length blocks) (source_of blocks) edges rows
+    → ((j : ℕ) (edge : Edge) → slice_get edges j ≡ Some edge → edge.to ≡ block → P (source_of blocks edge)) →
     (k : ℕ) (y : Source) → slice_get (get_or rows block []) k ≡ Some y → P y
 entries P blocks edges rows block gathered all k y at =
     elim (cases_lt block (length blocks)) [
@@ -162,15 +175,23 @@ pub length_forms : (blocks : List Block) → length (all_forms blocks) ≡ lengt
 length_forms [] = refl
 length_forms (block ∷ blocks) = ap suc (length_forms blocks)
 
-pub are_linked : (blocks : List Block) (edges : List Edge) (sources : List (List Source)) (readers : List (List ℕ)) → CanLink blocks edges → Gathered (length blocks) (source_of blocks) edges sources → Known (length blocks) (length blocks) edges readers → AreLinked (all_forms blocks) sources readers
+pub are_linked : (blocks : List Block) (edges : List Edge) (sources : List (List Source)) (readers : List (List ℕ))
+    → CanLink blocks edges → Gathered (length blocks) (source_of blocks) edges sources
+    → Known (length blocks) (length blocks) edges readers → AreLinked (all_forms blocks) sources readers
 are_linked blocks edges sources readers can gathered known = record {
   forms_size = length_forms blocks ∙ sym gathered.size;
   readers_size = known.size ∙ sym gathered.size;
-  there = λ block. all_places (λ source. source.block < length sources) (get_or sources block []) (entries (λ source. source.block < length sources) blocks edges sources block gathered (λ j edge at same. omega (arith, can.ends j edge at, gathered.size)));
-  shared_out = λ block. all_places (λ source. is_shared_out source.share ≡ true) (get_or sources block []) (entries (λ source. is_shared_out source.share ≡ true) blocks edges sources block gathered (λ j edge at same. can.shared_out j edge at));
+  there = λ block. all_places (λ source. source.block < length sources) (get_or sources block [])
+      (entries (λ source. source.block < length sources) blocks edges sources block gathered
+      (λ j edge at same. omega (arith, can.ends j edge at, gathered.size)));
+  shared_out = λ block. all_places (λ source. is_shared_out source.share ≡ true) (get_or sources block [])
+      (entries (λ source. is_shared_out source.share ≡ true) blocks edges sources block gathered
+      (λ j edge at same. can.shared_out j edge at));
   readers_there = λ block. rw gathered.size (known.there block);
   own = λ block inside. known.own block (omega (arith, gathered.size));
-  known = λ block. entries (λ source. is_in block (get_or readers source.block []) ≡ true) blocks edges sources block gathered (λ j edge at same. subst (λ (b : ℕ). is_in b (get_or readers edge.from []) ≡ true) same (known.known j edge at));
+  known = λ block. entries (λ source. is_in block (get_or readers source.block []) ≡ true) blocks edges sources
+      block gathered (λ j edge at same. subst (λ (b : ℕ). is_in b (get_or readers edge.from []) ≡ true) same
+      (known.known j edge at));
 }
 
 pub form_at : (blocks : List Block) (k : ℕ) (block : Block) → slice_get blocks k ≡ Some block → get_or (all_forms blocks) k Single ≡ form_of (shape_of block.kind) (list_length block.kind)
@@ -178,7 +199,9 @@ form_at [] k block at = absurd (none-some block at)
 form_at (b ∷ blocks) zero block at = ap (λ (o : Block). form_of (shape_of o.kind) (list_length o.kind)) (same_Some b block at)
 form_at (b ∷ blocks) (suc k) block at = form_at blocks k block at
 
-pub mirrors_built : (diagram : Diagram) (sources : List (List Source)) → Gathered (length diagram.blocks) (source_of diagram.blocks) diagram.edges sources → Mirrors diagram (all_forms diagram.blocks) sources
+pub mirrors_built : (diagram : Diagram) (sources : List (List Source))
+    → Gathered (length diagram.blocks) (source_of diagram.blocks) diagram.edges sources
+    → Mirrors diagram (all_forms diagram.blocks) sources
 mirrors_built diagram sources gathered = record { form = form_at diagram.blocks; source = gathered.row }
 
 -- where each size is fixed or none, the first tells which
@@ -191,5 +214,6 @@ open_by_first (x ∷ xs) d some (inl fixed) =
 open_by_first (x ∷ xs) d some (inr zeros) =
     let none : x ≡ 0 = zeros 0 d (omega arith) in
     let yes : eqb x 0 ≡ true = grind (arith, nat_tests) in
-    let rest : are_open xs ≡ true = (Decides-by_and (λ size. eqb size 0) (λ size. size ≡ 0) are_open (λ size. Decides-eqb size 0) refl (λ _ _. refl) xs).1 (λ k e inside. zeros (suc k) e (omega arith)) in
+    let rest : are_open xs ≡ true = (Decides-by_and (λ size. eqb size 0) (λ size. size ≡ 0) are_open
+    (λ size. Decides-eqb size 0) refl (λ _ _. refl) xs).1 (λ k e inside. zeros (suc k) e (omega arith)) in
     rw (yes, rest) refl

@@ -41,7 +41,9 @@ is_scan diagram scan forms sources held later wired mirrors is_held is_later is_
       size = size;
       again_size = ap length is_again ∙ length_shown blocks later later_size;
       inputs_size = gathered.size ∙ size;
-      again = λ place there. ap (λ (rows : Widths). get_or rows place []) again ∙ get_or_from_slice_get (round (next_widths diagram) W) place (next_widths diagram W place) [] (round_at (next_widths diagram) W place (omega (arith, W_size)));
+      again = λ place there. ap (λ (rows : Widths). get_or rows place []) again
+          ∙ get_or_from_slice_get (round (next_widths diagram) W) place (next_widths diagram W place) []
+          (round_at (next_widths diagram) W place (omega (arith, W_size)));
       inputs = λ place there. subst (λ (ws : Widths). get_or scan.inputs place [] ≡ map (width_of_edge ws) (edges_into diagram place)) widths (gathered.row place (omega (arith, size)));
     }
 

@@ -1,5 +1,6 @@
 -- Functions that give a relation's one answer; the terms of a sum, gathered one by one.
-use Rattle.std.proofs.Common.{◌≡◌, ℕ, zero, suc, ◌+◌, ◌<◌, ◌≤◌, Bool, List, [], ◌∷◌, ◌++◌, length, take, drop, set, get_or, Option, Some, None, Result, Ok, Err, ap, sym, ◌∙◌, refl, arith, append_assoc}
+use Rattle.std.proofs.Common.{◌≡◌, ℕ, zero, suc, ◌+◌, ◌<◌, ◌≤◌, Bool, List, [], ◌∷◌, ◌++◌, length, take, drop, set, get_or, Option, Some, None, Result, Ok, Err, ap, sym, ◌∙◌, refl, arith}
+use Rattle.std.proofs.Common.{append_assoc}
 use Rattle.std.specs.Prelude.{zip, All, IfOk, OnErr}
 use Rattle.std.specs.Result.{result_ok}
 use Rattle.std.proofs.lemmas.List.{drop_more, drop_all, take_more_set, append-nil}
@@ -19,7 +20,9 @@ none_given None P is none = refl
 none_given (Some type) P is none = absurd (none type (is type refl))
 
 -- what a function that keeps a relation gives is the relation's one answer, or none
-pub given_is : {E : Type 0} (o : Option FxType) (P : FxType → Type 0) (given : Result FxType E) → ((type : FxType) → P type → o ≡ Some type) → ((type : FxType) → o ≡ Some type → P type) → IfOk given P → OnErr given ((type : FxType) → ¬ P type) → result_ok given ≡ o
+pub given_is : {E : Type 0} (o : Option FxType) (P : FxType → Type 0) (given : Result FxType E)
+    → ((type : FxType) → P type → o ≡ Some type) → ((type : FxType) → o ≡ Some type → P type) → IfOk given P
+    → OnErr given ((type : FxType) → ¬ P type) → result_ok given ≡ o
 given_is o P (Ok type) to is ok none = sym (to type ok)
 given_is o P (Err fault) to is ok none = none_given o P is none
 
@@ -33,7 +36,9 @@ joined_on : {A : Type 0} (front : List A) (x : A) (o : Option (List A)) → join
 joined_on front x None = refl
 joined_on {A} front x (Some rest) = ap (λ (xs : List A). Some xs) (append_assoc front (x ∷ []) rest)
 
-paired : (n : Bool) (type : FxType) (signs : List Bool) (o : Option (List FxType)) → with_known (with_known o (λ ys. Some (type ∷ ys))) (λ ks. Some (zip (n ∷ signs) ks)) ≡ joined ((n, type) ∷ []) (with_known o (λ ks. Some (zip signs ks)))
+paired : (n : Bool) (type : FxType) (signs : List Bool) (o : Option (List FxType))
+    → with_known (with_known o (λ ys. Some (type ∷ ys))) (λ ks. Some (zip (n ∷ signs) ks))
+    ≡ joined ((n, type) ∷ []) (with_known o (λ ks. Some (zip signs ks)))
 paired n type signs None = refl
 paired n type signs (Some ks) = refl
 
@@ -44,12 +49,15 @@ zip_known (n ∷ signs) [] same = absurd (omega arith)
 zip_known (n ∷ signs) (None ∷ types) same = refl
 zip_known (n ∷ signs) (Some type ∷ types) same = paired n type signs (all_known types) ∙ ap (joined ((n, type) ∷ [])) (zip_known signs types (omega arith))
 
-through : (accum : TypeSpec) (negative : List Bool) (o : Option (List FxType)) → with_known o (λ known. sum_named accum (zip negative known)) ≡ with_known (with_known o (λ ks. Some (zip negative ks))) (sum_named accum)
+through : (accum : TypeSpec) (negative : List Bool) (o : Option (List FxType))
+    → with_known o (λ known. sum_named accum (zip negative known))
+    ≡ with_known (with_known o (λ ks. Some (zip negative ks))) (sum_named accum)
 through accum negative None = refl
 through accum negative (Some ks) = refl
 
 -- what a sum names is that of its terms
-pub full_of_terms : (accum : TypeSpec) (negative : List Bool) (types : Types) → length negative ≡ length types → full_type (FullRule.FullSum negative accum) types ≡ with_known (terms_of negative types) (sum_named accum)
+pub full_of_terms : (accum : TypeSpec) (negative : List Bool) (types : Types) → length negative ≡ length types
+    → full_type (FullRule.FullSum negative accum) types ≡ with_known (terms_of negative types) (sum_named accum)
 full_of_terms accum negative types same = through accum negative (all_known types) ∙ ap (λ (o : Option Terms). with_known o (sum_named accum)) (zip_known negative types same)
 
 module _ (accum : TypeSpec) (negative : List Bool) (types : Types) (terms : Terms) (i : ℕ) (inside : i < length negative) (same : length negative ≡ length types) where
@@ -67,24 +75,38 @@ module _ (accum : TypeSpec) (negative : List Bool) (types : Types) (terms : Term
       let rest = terms_of (drop (i + 1) negative) (drop (i + 1) types) in
       ap (λ (front : Terms). joined front rest) (take_more_set terms i (n, type) room)
       ∙ joined_on (take i terms) (n, type) rest
-      ∙ sym (ap (λ (signs : List Bool). joined (take i terms) (terms_of signs (drop i types))) (left_is n d is) ∙ ap (λ (ts : Types). joined (take i terms) (terms_of (n ∷ drop (i + 1) negative) ts)) (types_are (Some type) known))
+      ∙ sym (ap (λ (signs : List Bool). joined (take i terms) (terms_of signs (drop i types))) (left_is n d is)
+      ∙ ap (λ (ts : Types). joined (take i terms) (terms_of (n ∷ drop (i + 1) negative) ts))
+      (types_are (Some type) known))
       ∙ before
 
   -- a type that isn't known
-  pub sum_stops : known_at types i ≡ None → (d : Bool) → joined (take i terms) (terms_of (drop i negative) (drop i types)) ≡ terms_of negative types → None ≡ full_type (FullRule.FullSum negative accum) types
+  pub sum_stops : known_at types i ≡ None → (d : Bool)
+      → joined (take i terms) (terms_of (drop i negative) (drop i types)) ≡ terms_of negative types
+      → None ≡ full_type (FullRule.FullSum negative accum) types
   sum_stops unknown d before =
-      let none : terms_of negative types ≡ None = sym before ∙ ap (λ (signs : List Bool). joined (take i terms) (terms_of signs (drop i types))) (left_is (get_or negative i d) d refl) ∙ ap (λ (ts : Types). joined (take i terms) (terms_of (get_or negative i d ∷ drop (i + 1) negative) ts)) (types_are None unknown) in
+      let none : terms_of negative types ≡ None =
+      sym before ∙ ap (λ (signs : List Bool). joined (take i terms) (terms_of signs (drop i types)))
+      (left_is (get_or negative i d) d refl)
+      ∙ ap (λ (ts : Types). joined (take i terms)
+      (terms_of (get_or negative i d ∷ drop (i + 1) negative) ts)) (types_are None unknown) in
       sym (full_of_terms accum negative types same ∙ ap (λ (o : Option Terms). with_known o (sum_named accum)) none)
 
 -- all terms
-pub sum_ends : (accum : TypeSpec) (negative : List Bool) (types : Types) (front : Terms) (i : ℕ) → length negative ≤ i → length negative ≡ length types → joined front (terms_of (drop i negative) (drop i types)) ≡ terms_of negative types
+pub sum_ends : (accum : TypeSpec) (negative : List Bool) (types : Types) (front : Terms) (i : ℕ)
+    → length negative ≤ i → length negative ≡ length types
+    → joined front (terms_of (drop i negative) (drop i types)) ≡ terms_of negative types
     → sum_named accum front ≡ full_type (FullRule.FullSum negative accum) types
 sum_ends accum negative types front i past same before =
-    let all : terms_of negative types ≡ Some front = sym before ∙ ap (λ (signs : List Bool). joined front (terms_of signs (drop i types))) (drop_all i negative past) ∙ ap (λ (xs : Terms). Some xs) (append-nil front) in
+    let all : terms_of negative types ≡ Some front =
+    sym before ∙ ap (λ (signs : List Bool). joined front (terms_of signs (drop i types)))
+    (drop_all i negative past) ∙ ap (λ (xs : Terms). Some xs) (append-nil front) in
     sym (full_of_terms accum negative types same ∙ ap (λ (o : Option Terms). with_known o (sum_named accum)) all)
 
 -- valid terms
-pub valid_more : (terms : Terms) (i : ℕ) (n : Bool) (type : FxType) → i < length terms → IsType type → All (λ term. IsType term.1) (take i terms) → All (λ term. IsType term.1) (take (i + 1) (set terms i (n, type)))
+pub valid_more : (terms : Terms) (i : ℕ) (n : Bool) (type : FxType) → i < length terms → IsType type
+    → All (λ term. IsType term.1) (take i terms)
+    → All (λ term. IsType term.1) (take (i + 1) (set terms i (n, type)))
 valid_more terms i n type room valid before = rw (take_more_set terms i (n, type) room) (All-append (λ (term : Bool × FxType). IsType term.1) (take i terms) ((n, type) ∷ []) before only) where
   only : All (λ (term : Bool × FxType). IsType term.1) ((n, type) ∷ [])
   only zero d inside = valid

@@ -18,7 +18,9 @@ use Rattle.dg_types.specs.inner.TypeInputs.{AreReady, is_ready}
 use Rattle.dg_types.specs.inner.TypeScan.{IsTyped, keeps_part}
 
 -- the block that the rounds see at a place can be typed from the sources that they see there
-pub ready_at : {diagram : Diagram} {blocks : List Block} {forms : List Form} {sources : List (List Source)} {types : Types} → IsTyped diagram blocks forms sources types → AreReady blocks sources → (place : ℕ) (none : Block) → place < length diagram.blocks
+pub ready_at : {diagram : Diagram} {blocks : List Block} {forms : List Form} {sources : List (List Source)}
+    {types : Types} → IsTyped diagram blocks forms sources types → AreReady blocks sources
+    → (place : ℕ) (none : Block) → place < length diagram.blocks
     → is_ready (get_or blocks place none) (length (get_or sources place [])) ≡ true
 ready_at {blocks = blocks} typed ready place none there =
     ready.ready place (get_or blocks place none) (slice_get-get_or blocks place none (subst (λ (bs : List Block). place < length bs) (sym typed.blocks_are) there))
@@ -29,12 +31,17 @@ module _ (diagram : Diagram) (place : ℕ) (part : Part) (own block : Block) (he
       subst (λ (b : Block). (test ≡ true) ↔ keeps_part part diagram (types_of diagram) place b) here
       (subst (λ (q : Part). (test ≡ true) ↔ keeps_part q diagram (types_of diagram) place own) (sym is) given)
 
-  pub is_narrow_part : part ≡ Narrow → (test ≡ true) ↔ (names_full_type own.kind own.result ≡ true → All IsSome inputs → IsSome (full_type (row_of own.kind).types.full inputs)) → (test ≡ true) ↔ keeps_part part diagram (types_of diagram) place block
+  pub is_narrow_part : part ≡ Narrow → (test ≡ true) ↔
+      (names_full_type own.kind own.result ≡ true → All IsSome inputs
+      → IsSome (full_type (row_of own.kind).types.full inputs))
+      → (test ≡ true) ↔ keeps_part part diagram (types_of diagram) place block
   is_narrow_part is given =
       let P : Types → Type 0 = λ types. names_full_type own.kind own.result ≡ true → All IsSome types → IsSome (full_type (row_of own.kind).types.full types) in
       at_part Narrow is ((λ y. subst P e (given.0 y)), (λ k. given.1 (subst P (sym e) k)))
 
-  pub is_known_part : (type : Option FxType) → type ≡ known_at (types_of diagram) place → part ≡ Known → (test ≡ true) ↔ ((1 ≤ own.outputs → IsSome type) × All IsSome inputs) → (test ≡ true) ↔ keeps_part part diagram (types_of diagram) place block
+  pub is_known_part : (type : Option FxType) → type ≡ known_at (types_of diagram) place → part ≡ Known
+      → (test ≡ true) ↔ ((1 ≤ own.outputs → IsSome type) × All IsSome inputs)
+      → (test ≡ true) ↔ keeps_part part diagram (types_of diagram) place block
   is_known_part type o is given =
       let P : Types → Type 0 = λ types. All IsSome types in
       let Q : Option FxType → Type 0 = λ t. IsSome t in
@@ -43,7 +50,10 @@ module _ (diagram : Diagram) (place : ℕ) (part : Part) (own block : Block) (he
         (λ k. given.1 ((λ some. subst Q (sym o) (k.outputs some)), subst P (sym e) k.inputs)),
       )
 
-  pub is_agree_part : part ≡ Agree → (test ≡ true) ↔ (AgreesWith (row_of own.kind).place.role own.result inputs × AgreeInside (row_of own.kind).signal.shape inputs) → (test ≡ true) ↔ keeps_part part diagram (types_of diagram) place block
+  pub is_agree_part : part ≡ Agree → (test ≡ true) ↔
+      (AgreesWith (row_of own.kind).place.role own.result inputs
+      × AgreeInside (row_of own.kind).signal.shape inputs)
+      → (test ≡ true) ↔ keeps_part part diagram (types_of diagram) place block
   is_agree_part is given =
       let P : Types → Type 0 = λ types. AgreesWith (row_of own.kind).place.role own.result types in
       let Q : Types → Type 0 = λ types. AgreeInside (row_of own.kind).signal.shape types in

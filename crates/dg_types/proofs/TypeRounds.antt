@@ -67,7 +67,10 @@ full_types_are sums unions = record {
 }
 
 full_ready : (kind : Kind) (inputs outputs : ℕ) → HasPorts kind inputs outputs → (row_of kind).parameters → is_full_ready (row_of kind).types.full inputs ≡ true
-full_ready (Sum negative accum) inputs outputs ports has = both_true (eq-eqb (length negative) inputs (sym ports.0)) (both_true (le-leb 1 (length negative) (omega (arith, has.0.0))) (both_true (le-leb (length negative) 32 has.0.1) (spec_is accum has.2)))
+full_ready (Sum negative accum) inputs outputs ports has =
+    both_true (eq-eqb (length negative) inputs (sym ports.0))
+    (both_true (le-leb 1 (length negative) (omega (arith, has.0.0)))
+    (both_true (le-leb (length negative) 32 has.0.1) (spec_is accum has.2)))
 full_ready (Gain value param) inputs outputs ports has = spec_is param has.2
 full_ready _ inputs outputs ports has = refl
 
@@ -86,11 +89,15 @@ first_valid [] are k d inside = absurd (omega arith)
 first_valid (block ∷ blocks) are zero d inside = explicit_valid block.result (are 0 block (omega arith)).types
 first_valid (block ∷ blocks) are (suc k) d inside = first_valid blocks (λ j b i. are (suc j) b (omega arith)) k d (omega arith)
 
-pub are_ready : (diagram : Diagram) (forms : List Form) (sources : List (List Source)) → IsWired diagram → length sources ≡ length diagram.blocks → Mirrors diagram forms sources → AreReady diagram.blocks sources
+pub are_ready : (diagram : Diagram) (forms : List Form) (sources : List (List Source)) → IsWired diagram
+    → length sources ≡ length diagram.blocks → Mirrors diagram forms sources → AreReady diagram.blocks sources
 are_ready diagram forms sources wired size mirrors = record {
   size = size;
   ready = λ k block at.
-      let inputs : length (get_or sources k []) ≡ block.inputs = ap length (mirrors.source k (slice_get_within diagram.blocks k block at)) ∙ length-map (edges_into diagram k) (source_of diagram.blocks) ∙ inputs_are diagram k block wired at in
+      let inputs : length (get_or sources k []) ≡ block.inputs =
+      ap length (mirrors.source k (slice_get_within diagram.blocks k block at))
+      ∙ length-map (edges_into diagram k) (source_of diagram.blocks)
+      ∙ inputs_are diagram k block wired at in
       let is = readable diagram k block wired at in
       rw inputs (both_true (spec_is block.result is.types) (full_ready block.kind block.inputs block.outputs is.ports is.parameters));
 }
@@ -102,21 +109,31 @@ sources_are blocks values [] = refl
 sources_are blocks values (edge ∷ edges) = ap (λ (types : Types). known_at values edge.from ∷ types) (sources_are blocks values edges)
 
 -- the types at the sources of a block are those of its inputs
-pub inputs_are_typed : (diagram : Diagram) (forms : List Form) (sources : List (List Source)) (values : Types) (place : ℕ) → Mirrors diagram forms sources → place < length diagram.blocks → source_types values (get_or sources place []) ≡ input_types diagram values place
+pub inputs_are_typed : (diagram : Diagram) (forms : List Form) (sources : List (List Source)) (values : Types)
+    (place : ℕ) → Mirrors diagram forms sources → place < length diagram.blocks
+    → source_types values (get_or sources place []) ≡ input_types diagram values place
 inputs_are_typed diagram forms sources values place mirrors there = ap (source_types values) (mirrors.source place there) ∙ sources_are diagram.blocks values (edges_into diagram place)
 
-same_types_agree : (diagram : Diagram) (forms : List Form) (sources : List (List Source)) → Mirrors diagram forms sources → after_rounds (next_typed diagram.blocks sources) (length diagram.blocks) (first_types diagram.blocks) ≡ types_of diagram
+same_types_agree : (diagram : Diagram) (forms : List Form) (sources : List (List Source))
+    → Mirrors diagram forms sources → after_rounds (next_typed diagram.blocks sources) (length diagram.blocks)
+    (first_types diagram.blocks) ≡ types_of diagram
 same_types_agree diagram forms sources mirrors =
     rounds_agree (next_typed diagram.blocks sources) (next_types diagram) (length diagram.blocks) (λ values block size inside.
     ap (λ (types : Types). known_or (known_at values block) (type_of_next (slice_get diagram.blocks block) types)) (inputs_are_typed diagram forms sources values block mirrors inside))
     (length diagram.blocks) (first_types diagram.blocks) (length-map diagram.blocks (λ (block : Block). explicit_type block.result))
 
-pub types_agree : (diagram : Diagram) (blocks : List Block) (forms : List Form) (sources : List (List Source)) → blocks ≡ diagram.blocks → Mirrors diagram forms sources → after_rounds (next_typed blocks sources) (length blocks) (first_types blocks) ≡ types_of diagram
-types_agree diagram blocks forms sources is mirrors = subst (λ (bs : List Block). after_rounds (next_typed bs sources) (length bs) (first_types bs) ≡ types_of diagram) (sym is) (same_types_agree diagram forms sources mirrors)
+pub types_agree : (diagram : Diagram) (blocks : List Block) (forms : List Form) (sources : List (List Source))
+    → blocks ≡ diagram.blocks → Mirrors diagram forms sources
+    → after_rounds (next_typed blocks sources) (length blocks) (first_types blocks) ≡ types_of diagram
+types_agree diagram blocks forms sources is mirrors =
+    subst (λ (bs : List Block). after_rounds (next_typed bs sources) (length bs) (first_types bs)
+    ≡ types_of diagram) (sym is) (same_types_agree diagram forms sources mirrors)
 
 -- ---- what the scans look at
 
-pub is_typed : (diagram : Diagram) (blocks : List Block) (forms : List Form) (sources : List (List Source)) (types : Types) → blocks ≡ diagram.blocks → length sources ≡ length blocks → Mirrors diagram forms sources → types ≡ types_of diagram → All IsKnownValid types → IsTyped diagram blocks forms sources types
+pub is_typed : (diagram : Diagram) (blocks : List Block) (forms : List Form) (sources : List (List Source))
+    (types : Types) → blocks ≡ diagram.blocks → length sources ≡ length blocks → Mirrors diagram forms sources
+    → types ≡ types_of diagram → All IsKnownValid types → IsTyped diagram blocks forms sources types
 is_typed diagram blocks forms sources types is size mirrors typed valid = record {
   blocks_are = is;
   size = size ∙ ap length is;

@@ -12,7 +12,9 @@ use Rattle.dg_model.specs.Dimension.{IsBounded, KeepsDimension, KeepsDimensions,
 use Rattle.dg_model.specs.Widths.{Widths, widths_of}
 use Rattle.dg_types.specs.inner.WidthScan.{KeepAllBelow}
 
-pub breaks_at : (diagram : Diagram) (place : ℕ) (block : Block) (path : List ℕ) (fault : RuleFault) → slice_get diagram.blocks place ≡ Some block → ¬ KeepsDimension diagram (widths_of diagram) place block → KeepAllBelow diagram place →
+pub breaks_at : (diagram : Diagram) (place : ℕ) (block : Block) (path : List ℕ) (fault : RuleFault)
+    → slice_get diagram.blocks place ≡ Some block → ¬ KeepsDimension diagram (widths_of diagram) place block
+    → KeepAllBelow diagram place →
     path ≡ block.path → fault ≡ fault_of Rule.Dimension path Nothing → BreaksDimension diagram fault
 breaks_at diagram place block path fault at broken before is_path is_fault =
     let told : path_of diagram place ≡ block.path = rw at refl in
@@ -29,7 +31,9 @@ keeps_all diagram widths keep is bounded = record {
   bounded = subst (IsBounded diagram) is bounded;
 }
 
-pub breaks_bounds : (diagram : Diagram) (widths : Widths) (fault : RuleFault) → KeepAllBelow diagram (length diagram.blocks) → widths ≡ widths_of diagram → ¬ IsBounded diagram widths → fault ≡ fault_of Rule.Dimension [] Nothing → BreaksDimension diagram fault
+pub breaks_bounds : (diagram : Diagram) (widths : Widths) (fault : RuleFault)
+    → KeepAllBelow diagram (length diagram.blocks) → widths ≡ widths_of diagram → ¬ IsBounded diagram widths
+    → fault ≡ fault_of Rule.Dimension [] Nothing → BreaksDimension diagram fault
 breaks_bounds diagram widths fault keep is unbounded is_fault = inr (record {
   blocks = λ place block at. keep place block (slice_get_within diagram.blocks place block at) at;
   unbounded = λ bounded. unbounded (subst (IsBounded diagram) (sym is) bounded);

@@ -1,5 +1,6 @@
 -- What the code holds shows the widths of the rounds.
-use Rattle.std.proofs.Common.{◌≡◌, ℕ, zero, suc, ◌+◌, ◌-◌, ◌*◌, ◌/◌, ◌%◌, ◌<◌, ◌≤◌, Bool, true, false, List, [], ◌∷◌, length, map, filter, cond, Some, None, Option, get_or, min, refl, sym, ap, subst, ◌∙◌, inl, inr, arith}
+use Rattle.std.proofs.Common.{◌≡◌, ℕ, zero, suc, ◌+◌, ◌-◌, ◌*◌, ◌/◌, ◌%◌, ◌<◌, ◌≤◌, Bool, true, false, List, [], ◌∷◌, length, map, filter, cond, Some, None, Option, get_or, min, refl, sym, ap, subst}
+use Rattle.std.proofs.Common.{◌∙◌, inl, inr, arith}
 use Rattle.std.specs.Prelude.{slice_get, unwrap_or, if◌then◌else◌, ◌==◌}
 use Rattle.std.proofs.lemmas.Bool.{cases_lt}
 use Rattle.std.proofs.lemmas.Bool.Decides.{nat_tests}
@@ -38,7 +39,9 @@ through (Shape.Parted sizes) zero port is = go (are_open sizes) where
   go true = sym (ones_at sizes (port - 1) (omega arith))
   go false = sym (ones_at sizes (port - 1) (omega arith))
 through (Shape.Parted sizes) (suc width) port is = go (are_open sizes) where
-  go : (b : Bool) → width_through (if b then Even (length sizes) (port - 1) else Fixed (get_or sizes (port - 1) 0)) (suc width) ≡ get_or (if b then map (share width (length sizes)) (numbers_from 0 (length sizes)) else sizes) (port - 1) 0
+  go : (b : Bool) → width_through (if b then Even (length sizes) (port - 1) else Fixed (get_or sizes (port - 1) 0))
+      (suc width) ≡ get_or (if b then map (share width (length sizes)) (numbers_from 0 (length sizes)) else sizes)
+      (port - 1) 0
   go true = ap (share width (length sizes)) (omega arith) ∙ sym (mapped_or (share width (length sizes)) 0 (length sizes) (port - 1) (omega arith))
   go false = refl
 through _ held port is = rw is refl
@@ -74,7 +77,10 @@ taken_shown : (shape : Shape) (lists held : ℕ) (inputs : List ℕ) → HasPart
 taken_shown (Shape.Parted sizes) lists held inputs parts small =
     let same : min most_width (get_or inputs 0 0) ≡ get_or inputs 0 0 = omega (arith, small 0) in
     ap (λ (w : ℕ). outputs_of (Shape.Parted sizes) (suc w)) same ∙ go (are_open sizes) where
-      go : (b : Bool) → (if b then map (share (get_or inputs 0 0) (length sizes)) (numbers_from 0 (length sizes)) else sizes) ≡ map (min most_width) (if b then map (share (get_or inputs 0 0) (length sizes)) (numbers_from 0 (length sizes)) else sizes)
+      go : (b : Bool) → (if b then map (share (get_or inputs 0 0) (length sizes))
+          (numbers_from 0 (length sizes)) else sizes)
+          ≡ map (min most_width) (if b then map (share (get_or inputs 0 0) (length sizes))
+          (numbers_from 0 (length sizes)) else sizes)
       go true = sym (cut_numbers (share (get_or inputs 0 0) (length sizes)) 0 (length sizes) (λ k. share_small (get_or inputs 0 0) (length sizes) k (omega (arith, parts.0)) (small 0)))
       go false = sym (cut_small sizes (parts.1))
 taken_shown _ lists held inputs parts small = refl
@@ -113,20 +119,29 @@ length_shown [] (x ∷ held) size = absurd (omega arith)
 length_shown (block ∷ blocks) [] size = absurd (omega arith)
 length_shown (block ∷ blocks) (x ∷ held) size = ap suc (length_shown blocks held (omega arith))
 
-shown_at : (blocks : List Block) (held : List ℕ) (k : ℕ) (block : Block) → length held ≡ length blocks → slice_get blocks k ≡ Some block → slice_get (shown blocks held) k ≡ Some (outputs_of (shape_of block.kind) (get_or held k 0))
+shown_at : (blocks : List Block) (held : List ℕ) (k : ℕ) (block : Block) → length held ≡ length blocks
+    → slice_get blocks k ≡ Some block → slice_get (shown blocks held) k
+    ≡ Some (outputs_of (shape_of block.kind) (get_or held k 0))
 shown_at [] held k block size at = absurd (none-some block at)
 shown_at (b ∷ blocks) [] k block size at = absurd (omega arith)
 shown_at (b ∷ blocks) (x ∷ held) zero block size at = ap (λ (o : Block). Some (outputs_of (shape_of o.kind) x)) (same_Some b block at)
 shown_at (b ∷ blocks) (x ∷ held) (suc k) block size at = shown_at blocks held k block (omega arith) at
 
-mapped_into : (f g : Edge → ℕ) (to : ℕ) (edges : List Edge) → ((k : ℕ) (edge : Edge) → slice_get edges k ≡ Some edge → f edge ≡ g edge) → map f (filter (λ edge. edge.to == to) edges) ≡ map g (filter (λ edge. edge.to == to) edges)
+mapped_into : (f g : Edge → ℕ) (to : ℕ) (edges : List Edge)
+    → ((k : ℕ) (edge : Edge) → slice_get edges k ≡ Some edge → f edge ≡ g edge)
+    → map f (filter (λ edge. edge.to == to) edges) ≡ map g (filter (λ edge. edge.to == to) edges)
 mapped_into f g to [] same = refl
 mapped_into f g to (x ∷ xs) same = go (x.to == to) (same 0 x refl) (mapped_into f g to xs (λ k edge at. same (suc k) edge at)) where
-  go : (b : Bool) → f x ≡ g x → map f (filter (λ edge. edge.to == to) xs) ≡ map g (filter (λ edge. edge.to == to) xs) → map f (cond b (x ∷ filter (λ edge. edge.to == to) xs) (filter (λ edge. edge.to == to) xs)) ≡ map g (cond b (x ∷ filter (λ edge. edge.to == to) xs) (filter (λ edge. edge.to == to) xs))
+  go : (b : Bool) → f x ≡ g x → map f (filter (λ edge. edge.to == to) xs)
+      ≡ map g (filter (λ edge. edge.to == to) xs)
+      → map f (cond b (x ∷ filter (λ edge. edge.to == to) xs) (filter (λ edge. edge.to == to) xs))
+      ≡ map g (cond b (x ∷ filter (λ edge. edge.to == to) xs) (filter (λ edge. edge.to == to) xs))
   go true head tail = cc
   go false head tail = tail
 
-source_widths_map : (held : List ℕ) (blocks : List Block) (edges : List Edge) → source_widths held (map (source_of blocks) edges) ≡ map (λ (edge : Edge). width_through (source_of blocks edge).share (get_or held edge.from 0)) edges
+source_widths_map : (held : List ℕ) (blocks : List Block) (edges : List Edge)
+    → source_widths held (map (source_of blocks) edges)
+    ≡ map (λ (edge : Edge). width_through (source_of blocks edge).share (get_or held edge.from 0)) edges
 source_widths_map held blocks [] = refl
 source_widths_map held blocks (x ∷ xs) = ap (λ (ws : List ℕ). width_through (source_of blocks x).share (get_or held x.from 0) ∷ ws) (source_widths_map held blocks xs)
 
@@ -138,17 +153,24 @@ edge_width diagram held laid size k edge at =
     let value = get_or held edge.from 0 in
     rw (port.1, row_at (shown diagram.blocks held) edge.from (outputs_of shape value) (shown_at diagram.blocks held edge.from (port.0) size (port.1))) (through shape value edge.from_port (port.2))
 
-inputs_shown : (diagram : Diagram) (held : List ℕ) (block : ℕ) → IsLaid diagram → length held ≡ length diagram.blocks → source_widths held (map (source_of diagram.blocks) (edges_into diagram block)) ≡ input_widths diagram (shown diagram.blocks held) block
+inputs_shown : (diagram : Diagram) (held : List ℕ) (block : ℕ) → IsLaid diagram
+    → length held ≡ length diagram.blocks
+    → source_widths held (map (source_of diagram.blocks) (edges_into diagram block))
+    ≡ input_widths diagram (shown diagram.blocks held) block
 inputs_shown diagram held block laid size =
     source_widths_map held diagram.blocks (edges_into diagram block)
-    ∙ mapped_into (λ edge. width_through (source_of diagram.blocks edge).share (get_or held edge.from 0)) (λ edge. width_at (shown diagram.blocks held) edge.from edge.from_port) block diagram.edges (edge_width diagram held laid size)
+    ∙ mapped_into (λ edge. width_through (source_of diagram.blocks edge).share (get_or held edge.from 0))
+    (λ edge. width_at (shown diagram.blocks held) edge.from edge.from_port) block diagram.edges
+    (edge_width diagram held laid size)
 
 inputs_cut : (diagram : Diagram) (widths : Widths) (edges : List Edge) → IsCut widths → (k : ℕ) → get_or (map (λ (edge : Edge). width_at widths edge.from edge.from_port) edges) k 0 ≤ 1025
 inputs_cut diagram widths [] is k = omega arith
 inputs_cut diagram widths (x ∷ xs) is zero = is.cut x.from x.from_port
 inputs_cut diagram widths (x ∷ xs) is (suc k) = inputs_cut diagram widths xs is k
 
-block_round : (diagram : Diagram) (forms : List Form) (sources : List (List Source)) (held : List ℕ) (k : ℕ) (block : Block) → IsLaid diagram → Mirrors diagram forms sources → length held ≡ length diagram.blocks → IsCut (shown diagram.blocks held) → slice_get diagram.blocks k ≡ Some block →
+block_round : (diagram : Diagram) (forms : List Form) (sources : List (List Source)) (held : List ℕ) (k : ℕ)
+    (block : Block) → IsLaid diagram → Mirrors diagram forms sources → length held ≡ length diagram.blocks
+    → IsCut (shown diagram.blocks held) → slice_get diagram.blocks k ≡ Some block →
     outputs_of (shape_of block.kind) (next_held forms sources held k) ≡ next_widths diagram (shown diagram.blocks held) k
 block_round diagram forms sources held k block laid mirrors size is at =
     let shape = shape_of block.kind in
@@ -159,7 +181,9 @@ block_round diagram forms sources held k block laid mirrors size is at =
     let here = taken_shown shape (list_length block.kind) own inputs (laid.parts k block at) (inputs_cut diagram (shown diagram.blocks held) (edges_into diagram k) is) in
     rw (mirrors.form k block at, read, at, row) here
 
-shown_round : (diagram : Diagram) (forms : List Form) (sources : List (List Source)) (held : List ℕ) → IsLaid diagram → Mirrors diagram forms sources → length held ≡ length diagram.blocks → IsCut (shown diagram.blocks held) →
+shown_round : (diagram : Diagram) (forms : List Form) (sources : List (List Source)) (held : List ℕ)
+    → IsLaid diagram → Mirrors diagram forms sources → length held ≡ length diagram.blocks
+    → IsCut (shown diagram.blocks held) →
     shown diagram.blocks (round (next_held forms sources) held) ≡ round (next_widths diagram) (shown diagram.blocks held)
 shown_round diagram forms sources held laid mirrors size is =
     let next = next_held forms sources in
@@ -201,7 +225,9 @@ first_row_cut (Shape.Parted sizes) width k small = ones sizes k where
 first_row_cut Shape.Single width zero small = omega arith
 first_row_cut Shape.Single width (suc k) small = omega arith
 
-first_cut : (blocks : List Block) (k port : ℕ) → ((j : ℕ) (block : Block) → slice_get blocks j ≡ Some block → declared_width block.kind ≤ 1025) → width_at (map (λ block. first_of (shape_of block.kind) (declared_width block.kind)) blocks) k port ≤ 1025
+first_cut : (blocks : List Block) (k port : ℕ)
+    → ((j : ℕ) (block : Block) → slice_get blocks j ≡ Some block → declared_width block.kind ≤ 1025)
+    → width_at (map (λ block. first_of (shape_of block.kind) (declared_width block.kind)) blocks) k port ≤ 1025
 first_cut [] k port small = omega arith
 first_cut (block ∷ blocks) zero port small = first_row_cut (shape_of block.kind) (declared_width block.kind) (port - 1) (small 0 block refl)
 first_cut (block ∷ blocks) (suc k) port small = first_cut blocks k port (λ j b at. small (suc j) b at)
@@ -232,14 +258,18 @@ shows diagram forms sources (suc n) laid mirrors =
     }
 
 -- the code's rounds show the widths of the diagram's rounds
-pub held_shows : (diagram : Diagram) (forms : List Form) (sources : List (List Source)) (n : ℕ) → IsLaid diagram → Mirrors diagram forms sources → shown diagram.blocks (after_rounds (next_held forms sources) n (all_first diagram.blocks)) ≡ widths_after diagram n
+pub held_shows : (diagram : Diagram) (forms : List Form) (sources : List (List Source)) (n : ℕ) → IsLaid diagram
+    → Mirrors diagram forms sources → shown diagram.blocks
+    (after_rounds (next_held forms sources) n (all_first diagram.blocks)) ≡ widths_after diagram n
 held_shows diagram forms sources n laid mirrors = (shows diagram forms sources n laid mirrors).same
 
 first_held_fits : (shape : Shape) (width : ℕ) → width ≤ 1025 → first_held shape width ≤ 1026
 first_held_fits Shape.Elementwise width small = omega arith
 first_held_fits _ width small = omega arith
 
-pub first_fits : (blocks : List Block) (k d : ℕ) → ((j : ℕ) (block : Block) → slice_get blocks j ≡ Some block → declared_width block.kind ≤ 1025) → k < length (all_first blocks) → get_or (all_first blocks) k d ≤ 1026
+pub first_fits : (blocks : List Block) (k d : ℕ)
+    → ((j : ℕ) (block : Block) → slice_get blocks j ≡ Some block → declared_width block.kind ≤ 1025)
+    → k < length (all_first blocks) → get_or (all_first blocks) k d ≤ 1026
 first_fits [] k d small inside = absurd (omega arith)
 first_fits (block ∷ blocks) zero d small inside = first_held_fits (shape_of block.kind) (declared_width block.kind) (small 0 block refl)
 first_fits (block ∷ blocks) (suc k) d small inside = first_fits blocks k d (λ j b at. small (suc j) b at) (omega arith)

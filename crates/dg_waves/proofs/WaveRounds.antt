@@ -29,7 +29,9 @@ round_fits IsValue next values fit block d inside =
 
 -- ---- looking for changes
 
-is_changed_push : {A : Type 0} (changes : List (Change A)) (change : Change A) (block : ℕ) → is_changed block (changes ++ change ∷ []) ≡ false → (is_changed block changes ≡ false) × (eqb change.block block ≡ false)
+is_changed_push : {A : Type 0} (changes : List (Change A)) (change : Change A) (block : ℕ)
+    → is_changed block (changes ++ change ∷ []) ≡ false
+    → (is_changed block changes ≡ false) × (eqb change.block block ≡ false)
 is_changed_push [] change block is = (refl, (or_parts (eqb change.block block) false is).0)
 is_changed_push (x ∷ xs) change block is =
     let parts = or_parts (eqb x.block block) (is_changed block (xs ++ change ∷ [])) is in
@@ -37,7 +39,9 @@ is_changed_push (x ∷ xs) change block is =
     (or_from (eqb x.block block) (is_changed block xs) (parts.0) (later.0), later.1)
 
 -- a block that keeps its value need not wait
-pub sought_kept : {A : Type 0} (next : List A → ℕ → A) (values : List A) (changes : List (Change A)) (block : ℕ) (left : List ℕ) → slice_get values block ≡ Some (next values block) → Sought next values changes (block ∷ left) → Sought next values changes left
+pub sought_kept : {A : Type 0} (next : List A → ℕ → A) (values : List A) (changes : List (Change A)) (block : ℕ)
+    (left : List ℕ) → slice_get values block ≡ Some (next values block) → Sought next values changes (block ∷ left)
+    → Sought next values changes left
 sought_kept next values changes block left same sought = record {
   takes = sought.takes;
   alters = sought.alters;
@@ -49,7 +53,10 @@ sought_kept next values changes block left same sought = record {
 }
 
 -- nor one whose change was found
-pub sought_found : {A : Type 0} (next : List A → ℕ → A) (values : List A) (changes : List (Change A)) (change : Change A) (left : List ℕ) → change.value ≡ next values change.block → slice_get values change.block ≢ Some change.value → Sought next values changes (change.block ∷ left) → Sought next values (changes ++ change ∷ []) left
+pub sought_found : {A : Type 0} (next : List A → ℕ → A) (values : List A) (changes : List (Change A))
+    (change : Change A) (left : List ℕ) → change.value ≡ next values change.block
+    → slice_get values change.block ≢ Some change.value → Sought next values changes (change.block ∷ left)
+    → Sought next values (changes ++ change ∷ []) left
 sought_found next values changes change left is differs sought = record {
   takes = pushed_at (λ (c : Change _). c.value ≡ next values c.block) changes change sought.takes is;
   alters = pushed_at (λ (c : Change _). slice_get values c.block ≢ Some c.value) changes change sought.alters differs;
@@ -150,7 +157,9 @@ counted_within (false ∷ marks) = omega (arith, counted_within marks)
 
 -- ---- writing the changes
 
-pub readers_marked_more : {A : Type 0} (readers : ℕ → List ℕ) (old marks : List Bool) (changes : List (Change A)) (change : Change A) (left : List (Change A)) → Marked old marks (readers change.block) [] → ReadersMarked readers old changes (change ∷ left) → ReadersMarked readers marks changes left
+pub readers_marked_more : {A : Type 0} (readers : ℕ → List ℕ) (old marks : List Bool) (changes : List (Change A))
+    (change : Change A) (left : List (Change A)) → Marked old marks (readers change.block) []
+    → ReadersMarked readers old changes (change ∷ left) → ReadersMarked readers marks changes left
 readers_marked_more readers old marks changes change left now before = record {
   marked = λ block reader is gone reads.
       elim (cases_Bool (eqb change.block block)) [
@@ -162,7 +171,11 @@ readers_marked_more readers old marks changes change left now before = record {
 -- ---- a wave
 
 -- what is written at a block that changes or already has what it takes
-written_at : {A : Type 0} (takes : ℕ → A) (changes : List (Change A)) (values : List A) (block : ℕ) → block < length values → ((k : ℕ) (change : Change A) → slice_get changes k ≡ Some change → change.value ≡ takes change.block) → (is_changed block changes ≡ false → slice_get values block ≡ Some (takes block)) → slice_get (written changes values) block ≡ Some (takes block)
+written_at : {A : Type 0} (takes : ℕ → A) (changes : List (Change A)) (values : List A) (block : ℕ)
+    → block < length values → ((k : ℕ) (change : Change A) → slice_get changes k ≡ Some change
+    → change.value ≡ takes change.block)
+    → (is_changed block changes ≡ false → slice_get values block ≡ Some (takes block))
+    → slice_get (written changes values) block ≡ Some (takes block)
 written_at takes [] values block inside is keeps = keeps refl
 written_at takes (x ∷ xs) values block inside is keeps =
     written_at takes xs (set values x.block x.value) block (rw length_set inside) (λ k change at. is (suc k) change at) (λ unchanged.
@@ -192,7 +205,9 @@ wave_is_round next changes values are =
 -- after a wave, what isn't marked keeps its value in the next round
 pub settled_after : {A : Type 0} (next : List A → ℕ → A) (readers : ℕ → List ℕ) (count : ℕ) (changes : List (Change A)) (values : List A) (marks : List Bool) (waiting : List ℕ) →
     length values ≡ count → length marks ≡ count →
-    ((old new : List A) (block : ℕ) → length old ≡ count → length new ≡ count → block < count → ((source : ℕ) → is_in block (readers source) ≡ true → slice_get old source ≡ slice_get new source) → next old block ≡ next new block) →
+    ((old new : List A) (block : ℕ) → length old ≡ count → length new ≡ count → block < count
+    → ((source : ℕ) → is_in block (readers source) ≡ true → slice_get old source ≡ slice_get new source)
+    → next old block ≡ next new block) →
     Sought next values changes [] → ReadersMarked readers marks changes [] → MarkedWait marks waiting → Sought next (written changes values) [] waiting
 settled_after next readers count changes values marks waiting size marks_size local are marked wait = record {
   takes = λ k change at. absurd (none-some change at);
@@ -217,7 +232,9 @@ none_marked (suc n) (suc block) at = none_marked n block at
 
 -- every block waits, and none is marked
 pub between_first : {A : Type 0} (count : ℕ) (IsValue : A → Type 0) (next : List A → ℕ → A) (values : List A) (waiting : List ℕ) (marks : List Bool) →
-    length values ≡ count → All IsValue values → All (λ block. block < length values) waiting → ((block : ℕ) → block < length values → is_in block waiting ≡ true) → marks ≡ replicate (length values) false → IsBetween count IsValue next values waiting marks
+    length values ≡ count → All IsValue values → All (λ block. block < length values) waiting
+    → ((block : ℕ) → block < length values → is_in block waiting ≡ true)
+    → marks ≡ replicate (length values) false → IsBetween count IsValue next values waiting marks
 between_first count IsValue next values waiting marks size fit there all none = record {
   size = size;
   marks_size = ap (λ (bs : List Bool). length bs) none ∙ length-replicate (length values) false ∙ size;
@@ -238,7 +255,9 @@ length_after next zero start = refl
 length_after next (suc n) start = length_round next (after_rounds next n start) ∙ length_after next n start
 
 -- steps that give the same on all values of one length have the same rounds
-pub rounds_agree : {A : Type 0} (f g : List A → ℕ → A) (count : ℕ) → ((values : List A) (block : ℕ) → length values ≡ count → block < count → f values block ≡ g values block) → (n : ℕ) (start : List A) → length start ≡ count → after_rounds f n start ≡ after_rounds g n start
+pub rounds_agree : {A : Type 0} (f g : List A → ℕ → A) (count : ℕ)
+    → ((values : List A) (block : ℕ) → length values ≡ count → block < count → f values block ≡ g values block)
+    → (n : ℕ) (start : List A) → length start ≡ count → after_rounds f n start ≡ after_rounds g n start
 rounds_agree f g count same zero start size = refl
 rounds_agree f g count same (suc n) start size =
     let values = after_rounds f n start in

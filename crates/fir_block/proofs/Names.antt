@@ -55,7 +55,9 @@ module _ (other : Decimal) (fir : Fir) where
       (λ e. let same : number ≡ from = same_number 100 number from (omega (arith, less, few)) (omega (arith, few)) e in absurd (omega (arith, same, less)))
       (later_delays number (from + 1) count (omega (arith, less)) (omega (arith, few)))
 
-  later_gains : (coefficient : Decimal) (number k : ℕ) (coefficients : List Decimal) → number < k → k + length coefficients < 2 ^ 64 → All (Differ (gain_block fir number coefficient)) (gain_blocks fir k coefficients)
+  later_gains : (coefficient : Decimal) (number k : ℕ) (coefficients : List Decimal) → number < k
+      → k + length coefficients < 2 ^ 64
+      → All (Differ (gain_block fir number coefficient)) (gain_blocks fir k coefficients)
   later_gains coefficient number k [] less few = none (Differ (gain_block fir number coefficient))
   later_gains coefficient number k (next ∷ coefficients) less few =
       one (Differ (gain_block fir number coefficient)) (gain_block fir k next) _

@@ -40,7 +40,9 @@ cuts (x ∷ one) after (y ∷ other) after_other e =
     let rest : one ++ after ≡ other ++ after_other = cc in
     joined x y one after other after_other same (cuts one after other after_other rest)
   where
-    joined : (x y : ℕ) (one after other after_other : List ℕ) → x ≡ y → Between one after other after_other ⊎ Between other after_other one after → Between (x ∷ one) after (y ∷ other) after_other ⊎ Between (y ∷ other) after_other (x ∷ one) after
+    joined : (x y : ℕ) (one after other after_other : List ℕ) → x ≡ y
+        → Between one after other after_other ⊎ Between other after_other one after
+        → Between (x ∷ one) after (y ∷ other) after_other ⊎ Between (y ∷ other) after_other (x ∷ one) after
     joined x y one after other after_other same (inl h) = inl (record { between = h.between; longer = cc; shorter = h.shorter })
     joined x y one after other after_other same (inr h) = inr (record { between = h.between; longer = cc; shorter = h.shorter })
 
@@ -86,13 +88,20 @@ module _ (IsText : List ℕ → Type 0) where
       let both : front ++ 10 ∷ after_other ≡ line ++ 10 ∷ more = sym (append_assoc front (10 ∷ []) after_other) ∙ ap (λ l. l ++ after_other) (sym ends) ∙ sym cut ∙ split in
       let within = first_newline_within line front more after_other one both in
       let longer : before ++ between ≡ (before ++ (line ++ 10 ∷ [])) ++ within.0 = ap (λ l. before ++ l) (ends ∙ within.1) ∙ sym (append_assoc before (line ++ 10 ∷ []) within.0) in
-      absurd (stops (record { rest = within.0 ++ begins.rest; is_text = subst IsText (ap (λ l. l ++ begins.rest) longer ∙ append_assoc (before ++ (line ++ 10 ∷ [])) within.0 begins.rest) begins.is_text }))
+      absurd (stops (record {
+        rest = within.0 ++ begins.rest;
+        is_text =
+            subst IsText (ap (λ l. l ++ begins.rest) longer
+            ∙ append_assoc (before ++ (line ++ 10 ∷ [])) within.0 begins.rest) begins.is_text;
+      }))
 
   module _ (bytes : List ℕ) where
     -- bytes that stop at two lines, the second not before the first, stop at one
     same_line : (one other : ℕ) (first : IsFaultLine IsText bytes one) (second : IsFaultLine IsText bytes other) → Between first.before first.after second.before second.after → one ≡ other
     same_line one other first second cut =
-        let none = none_past first.before first.after cut.between second.after first.stops cut.shorter (whole_end first.before cut.between second.before cut.longer second.lines) (subst (IsPrefix IsText) cut.longer second.begins) in
+        let none = none_past first.before first.after cut.between second.after first.stops cut.shorter
+        (whole_end first.before cut.between second.before cut.longer second.lines)
+        (subst (IsPrefix IsText) cut.longer second.begins) in
         let same : second.before ≡ first.before = cut.longer ∙ ap (λ l. first.before ++ l) none ∙ append-nil first.before in
         first.number ∙ ap (λ l. 1 + count_by (λ byte. byte == 10) l) (sym same) ∙ sym second.number
 

@@ -34,5 +34,7 @@ took-more told before now done piece rest took part =
     )
 
 -- of a piece behind which the rest of a text stands
-pub took-split : (told before now : Option (List ℕ)) (done piece : List ℕ) {text : List ℕ} → (rest : List ℕ) × (text ≡ done ++ (piece ++ rest)) → before ≡ also_took told done → TookProperPrefix before now piece → TookProperPrefix told now text
+pub took-split : (told before now : Option (List ℕ)) (done piece : List ℕ) {text : List ℕ}
+    → (rest : List ℕ) × (text ≡ done ++ (piece ++ rest)) → before ≡ also_took told done
+    → TookProperPrefix before now piece → TookProperPrefix told now text
 took-split told before now done piece split took part = subst (λ bytes. TookProperPrefix told now bytes) (sym split.1) (took-more told before now done piece split.0 took part)

@@ -1,5 +1,6 @@
 -- Each mode is the whole number below, with a bias added before.
-use Rattle.std.proofs.Common.{◌≡◌, ℕ, suc, ◌+◌, ◌-◌, ◌*◌, ◌/◌, ◌%◌, ◌^◌, ◌<◌, ◌≤◌, Bool, true, false, ℤ, pos, negsuc, neg_ℤ, ◌+ℤ◌, ◌-ℤ◌, ◌*ℤ◌, ◌≤ℤ◌, ◌<ℤ◌, bit_and, to_z, of_z, FitsSigned, cond, int_lt, ap, sym, ◌∙◌, refl, subst, mod-lt, arith, pow_mono, pow_pos}
+use Rattle.std.proofs.Common.{◌≡◌, ℕ, suc, ◌+◌, ◌-◌, ◌*◌, ◌/◌, ◌%◌, ◌^◌, ◌<◌, ◌≤◌, Bool, true, false, ℤ, pos, negsuc, neg_ℤ, ◌+ℤ◌, ◌-ℤ◌, ◌*ℤ◌, ◌≤ℤ◌, ◌<ℤ◌, bit_and, to_z, of_z, FitsSigned, cond}
+use Rattle.std.proofs.Common.{int_lt, ap, sym, ◌∙◌, refl, subst, mod-lt, arith, pow_mono, pow_pos}
 use Rattle.std.specs.Int.{w64, int_max, int_min}
 use Rattle.std.specs.Int.Signed.{shr_z}
 use Rattle.std.proofs.lemmas.Int.{ints, clamps, by_lt_z}
@@ -18,7 +19,9 @@ least_is width true word = omega (arith, ints, pow_pos (width - 1))
 least_is width false word = refl
 
 -- between the ends of its word a number is what the type stores
-pub clamped : (width : ℕ) (signed : Bool) (frac r low high result : ℤ) → IsWord width signed → high ≡ word_highest width signed → low ≡ least_beside signed high → result ≡ int_max low (int_min r high) → Saturates (Num signed width frac) r result
+pub clamped : (width : ℕ) (signed : Bool) (frac r low high result : ℤ) → IsWord width signed
+    → high ≡ word_highest width signed → low ≡ least_beside signed high → result ≡ int_max low (int_min r high)
+    → Saturates (Num signed width frac) r result
 clamped width signed frac r low high result word at_high at_low is =
     let least : low ≡ word_lowest width signed = at_low ∙ ap (least_beside signed) at_high ∙ least_is width signed word in
     let under : word_lowest width signed ≤ℤ pos 0 = lowest_sign (Num signed width frac) in
@@ -81,13 +84,21 @@ module _ (n bias : ℤ) (d : ℕ) (r : ℤ) (floor : RoundsDown (n +ℤ bias) d 
     at_least = omega (arith, ints, e, t.low, floor.next_above);
     at_most = omega (arith, ints, e, t.high, floor.at_most);
     even_below = λ h.
-        let same = floors_one n d lower r floors (record { at_most = omega (arith, ints, e, h, t.low, t.high, floor.at_most, floor.next_above); next_above = omega (arith, ints, e, h, t.low, t.high, floor.at_most, floor.next_above) }) in
+        let same = floors_one n d lower r floors
+        (record {
+          at_most = omega (arith, ints, e, h, t.low, t.high, floor.at_most, floor.next_above);
+          next_above = omega (arith, ints, e, h, t.low, t.high, floor.at_most, floor.next_above);
+        }) in
         subst IsEven same (t.stays (omega (arith, ints, e, h, t.low, t.high, floor.next_above)));
     even_above = λ h.
         let q = r +ℤ negsuc 0 in
         let back : q +ℤ pos 1 ≡ r = omega (arith, ints) in
         let scaled : r *ℤ pos d ≡ q *ℤ pos d +ℤ pos d = ap (λ (z : ℤ). z *ℤ pos d) (sym back) ∙ next-scaled q d in
-        let same = floors_one n d lower q floors (record { at_most = omega (arith, ints, e, h, scaled, t.low, t.high, floor.at_most, floor.next_above); next_above = omega (arith, ints, e, h, scaled, t.low, t.high, floor.at_most, floor.next_above) }) in
+        let same = floors_one n d lower q floors
+        (record {
+          at_most = omega (arith, ints, e, h, scaled, t.low, t.high, floor.at_most, floor.next_above);
+          next_above = omega (arith, ints, e, h, scaled, t.low, t.high, floor.at_most, floor.next_above);
+        }) in
         subst IsEven (ap (λ (z : ℤ). z +ℤ pos 1) same ∙ back) (t.goes (omega (arith, ints, e, h, t.low, t.high, floor.at_most)));
   }
 
@@ -101,7 +112,9 @@ module _ (n at_least_zero below_zero : ℤ) (d : ℕ) (r : ℤ) (floor : RoundsD
       go false k p = record { not_negative = λ _. plain n at_least_zero d r p e; negative = λ h. absurd (omega (arith, ints, h, k)) }
 
 -- half a unit added before, and one taken off before that from what is below 0
-pub away_from_zero : (n sign half : ℤ) (d : ℕ) (r : ℤ) → sign ≡ cond (int_lt n (pos 0)) (negsuc 0) (pos 0) → twice half ≡ pos d → RoundsDown ((n +ℤ sign) +ℤ half) d r → BySign n (RoundsTiesUp n d r) (RoundsTiesDown n d r)
+pub away_from_zero : (n sign half : ℤ) (d : ℕ) (r : ℤ) → sign ≡ cond (int_lt n (pos 0)) (negsuc 0) (pos 0)
+    → twice half ≡ pos d → RoundsDown ((n +ℤ sign) +ℤ half) d r
+    → BySign n (RoundsTiesUp n d r) (RoundsTiesDown n d r)
 away_from_zero n sign half d r is e floor = go (int_lt n (pos 0)) refl is
   where
     go : (negative : Bool) → int_lt n (pos 0) ≡ negative → sign ≡ cond negative (negsuc 0) (pos 0) → BySign n (RoundsTiesUp n d r) (RoundsTiesDown n d r)
@@ -142,7 +155,8 @@ word_low width true v h number =
 word_low width false v h number = omega (arith, ints, number.low)
 
 -- what is left of the halves without half of them is the whole number below, with a half added before
-pub halves_floor : (v halves lower : ℤ) (unit d : ℕ) → d ≡ 2 * unit → RoundsDown v unit halves → RoundsDown halves 2 lower → (half : ℤ) → twice half ≡ pos d → RoundsDown (v +ℤ half) d (halves -ℤ lower)
+pub halves_floor : (v halves lower : ℤ) (unit d : ℕ) → d ≡ 2 * unit → RoundsDown v unit halves
+    → RoundsDown halves 2 lower → (half : ℤ) → twice half ≡ pos d → RoundsDown (v +ℤ half) d (halves -ℤ lower)
 halves_floor v halves lower unit d double below next half e =
     let q = halves -ℤ lower in
     let whole : q *ℤ pos d ≡ (q *ℤ pos 2) *ℤ pos unit = ap (λ (k : ℕ). q *ℤ pos k) double ∙ sym (mul-scaled q 2 unit) in

@@ -34,7 +34,9 @@ zero_in_word w false = record { low = omega (arith, ints); high = omega (arith, 
 pub zero_wrapped : (v : ℤ) (by w : ℕ) (s : Bool) → w ≤ by → IsWrapped (v *ℤ pos (2 ^ by)) w s (pos 0)
 zero_wrapped v by w s h = record { in_word = zero_in_word w s; congruent = zero_congruent v by w h }
 
-pub shift_wrapped : (v : ℤ) (by w : ℕ) (s : Bool) (r : ℤ) → w ≤ 128 → FitsSigned w128 v → IsWrapped (to_z w128 ((of_z w128 v * 2 ^ by) % 340282366920938463463374607431768211456)) w s r → IsWrapped (v *ℤ pos (2 ^ by)) w s r
+pub shift_wrapped : (v : ℤ) (by w : ℕ) (s : Bool) (r : ℤ) → w ≤ 128 → FitsSigned w128 v
+    → IsWrapped (to_z w128 ((of_z w128 v * 2 ^ by) % 340282366920938463463374607431768211456)) w s r
+    → IsWrapped (v *ℤ pos (2 ^ by)) w s r
 shift_wrapped v by w s r h f k = record { in_word = k.in_word; congruent = IsCongruent-trans (2 ^ w) k.congruent (shift_congruent v by w h f) }
 
 -- ---- the lower 64 bits of a number, and what stands above them
@@ -59,20 +61,25 @@ halves_in_word kept low w false many below h =
     }
 
 -- the lower 64 bits stay, and what stands above them is wrapped
-pub wrapped_halves : (r high kept : ℤ) (low w : ℕ) (s : Bool) → 65 ≤ w → low < 2 ^ 64 → r ≡ high *ℤ pos (2 ^ 64) +ℤ pos low → IsWrapped high (w - 64) s kept → IsWrapped r w s (kept *ℤ pos (2 ^ 64) +ℤ pos low)
+pub wrapped_halves : (r high kept : ℤ) (low w : ℕ) (s : Bool) → 65 ≤ w → low < 2 ^ 64
+    → r ≡ high *ℤ pos (2 ^ 64) +ℤ pos low → IsWrapped high (w - 64) s kept
+    → IsWrapped r w s (kept *ℤ pos (2 ^ 64) +ℤ pos low)
 wrapped_halves r high kept low w s many below whole h =
     let c = h.congruent in
     let k : w - 64 + 64 ≡ w = omega arith in
     let power : 2 ^ (w - 64) * 2 ^ 64 ≡ 2 ^ w = sym (pow-add 2 (w - 64) 64) ∙ ap (λ (n : ℕ). 2 ^ n) k in
     let turned : (c.turns *ℤ pos (2 ^ (w - 64))) *ℤ pos (2 ^ 64) ≡ c.turns *ℤ pos (2 ^ w) = mul-scaled c.turns (2 ^ (w - 64)) (2 ^ 64) ∙ ap (λ (n : ℕ). c.turns *ℤ pos n) power in
-    let scaled : kept *ℤ pos (2 ^ 64) ≡ high *ℤ pos (2 ^ 64) +ℤ (c.turns *ℤ pos (2 ^ (w - 64))) *ℤ pos (2 ^ 64) = ap (λ (z : ℤ). z *ℤ pos (2 ^ 64)) c.equal ∙ add-scaled high (c.turns *ℤ pos (2 ^ (w - 64))) (2 ^ 64) in
+    let scaled : kept *ℤ pos (2 ^ 64) ≡ high *ℤ pos (2 ^ 64) +ℤ (c.turns *ℤ pos (2 ^ (w - 64))) *ℤ pos (2 ^ 64) =
+    ap (λ (z : ℤ). z *ℤ pos (2 ^ 64)) c.equal ∙ add-scaled high (c.turns *ℤ pos (2 ^ (w - 64))) (2 ^ 64) in
     record {
       in_word = halves_in_word kept low w s many below h.in_word;
       congruent = record { turns = c.turns; equal = omega (arith, ints, scaled, turned, whole) };
     }
 
 -- both fit in 128 bits
-pub halves_fit : (q kept : ℤ) (low w : ℕ) (s : Bool) → IsWord w s → 65 ≤ w → low < 2 ^ 64 → IsWrapped q (w - 64) s kept → FitsSigned w128 (kept *ℤ pos (2 ^ 64)) × FitsSigned w128 (kept *ℤ pos (2 ^ 64) +ℤ pos low)
+pub halves_fit : (q kept : ℤ) (low w : ℕ) (s : Bool) → IsWord w s → 65 ≤ w → low < 2 ^ 64
+    → IsWrapped q (w - 64) s kept → FitsSigned w128 (kept *ℤ pos (2 ^ 64))
+    × FitsSigned w128 (kept *ℤ pos (2 ^ 64) +ℤ pos low)
 halves_fit q kept low w s word many below h =
     let up : FitsSigned w128 (kept *ℤ pos (2 ^ 64) +ℤ pos 0) = word-fits w s _ word (halves_in_word kept 0 w s many (omega arith) h.in_word) in
     let all = word-fits w s _ word (halves_in_word kept low w s many below h.in_word) in

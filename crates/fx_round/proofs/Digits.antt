@@ -14,7 +14,9 @@ digit_range c e = let h = and_parts _ _ e in (leb-true 48 c h.0, leb-true c 57 h
 pub digit_is : (c : ℕ) → is_ascii_digit c ≡ true → digit_value c + 48 ≡ c
 digit_is c e = digit_value_digit c (digit_range c e)
 
-pub front_split : (xs : List ℕ) (n : ℕ) → n ≤ length xs → ((k : ℕ) → k < n → is_ascii_digit (get_or xs k 0) ≡ true) → ((n ≡ length xs) ⊎ (is_ascii_digit (get_or xs n 0) ≡ false)) → (take n xs ≡ front_digits xs) × (drop n xs ≡ after_digits xs)
+pub front_split : (xs : List ℕ) (n : ℕ) → n ≤ length xs → ((k : ℕ) → k < n → is_ascii_digit (get_or xs k 0) ≡ true)
+    → ((n ≡ length xs) ⊎ (is_ascii_digit (get_or xs n 0) ≡ false))
+    → (take n xs ≡ front_digits xs) × (drop n xs ≡ after_digits xs)
 front_split [] zero h all stop = (refl, refl)
 front_split [] (suc n) h all stop = (refl, refl)
 front_split (c ∷ cs) zero h all (inl e) = absurd (omega arith)

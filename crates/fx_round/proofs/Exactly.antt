@@ -1,5 +1,6 @@
 -- Rounding, conversion and storing give exactly one number, and it is in range.
-use Rattle.std.proofs.Common.{◌≡◌, ◌≢◌, ℕ, zero, suc, ◌-◌, ◌*◌, ◌^◌, ◌<◌, ◌≤◌, ◌⊎◌, inl, inr, Bool, true, false, ℤ, pos, neg_ℤ, ◌+ℤ◌, ◌*ℤ◌, ◌≤ℤ◌, ◌<ℤ◌, true≢false, sym, ◌∙◌, refl, subst, arith, pow_pos, mul-pos}
+use Rattle.std.proofs.Common.{◌≡◌, ◌≢◌, ℕ, zero, suc, ◌-◌, ◌*◌, ◌^◌, ◌<◌, ◌≤◌, ◌⊎◌, inl, inr, Bool, true, false, ℤ, pos, neg_ℤ, ◌+ℤ◌, ◌*ℤ◌, ◌≤ℤ◌, ◌<ℤ◌, true≢false, sym, ◌∙◌, refl, subst, arith}
+use Rattle.std.proofs.Common.{pow_pos, mul-pos}
 use Rattle.std.specs.Int.{int_gap, int_div_euclid}
 use Rattle.std.proofs.lemmas.Bool.{cases_lt}
 use Rattle.std.proofs.lemmas.Int.{ints, by_lt_z}
@@ -32,7 +33,9 @@ settles_one : (s : Bool) (w : ℕ) (f : ℤ) (saturate : Bool) (r a b : ℤ) →
 settles_one s w f true r a b t p q = saturates_only (Num s w f) r a b p q
 settles_one s w f false r a b t p q = wrapped_one r w s a b (word_width w s f t) p q
 
-stores_quotient_one : (n : ℤ) (d : ℕ) (s : Bool) (w : ℕ) (f : ℤ) (mode : Rounding) (saturate : Bool) (a b : ℤ) → 0 < d → IsType (Num s w f) → StoresQuotient n d (Num s w f) mode saturate a → StoresQuotient n d (Num s w f) mode saturate b → a ≡ b
+stores_quotient_one : (n : ℤ) (d : ℕ) (s : Bool) (w : ℕ) (f : ℤ) (mode : Rounding) (saturate : Bool) (a b : ℤ)
+    → 0 < d → IsType (Num s w f) → StoresQuotient n d (Num s w f) mode saturate a
+    → StoresQuotient n d (Num s w f) mode saturate b → a ≡ b
 stores_quotient_one n d s w f mode saturate a b h t p q =
     let e : p.rounded ≡ q.rounded = rounds_one mode n d p.rounded q.rounded h p.rounds q.rounds in
     settles_one s w f saturate q.rounded a b t (subst (λ (z : ℤ). Settles (Num s w f) saturate z a) e p.settles) q.settles
@@ -80,7 +83,10 @@ rounds_some mode n d h = with_part (part_of d e.rest e.below)
     o : IsParity (int_div_euclid n (pos d))
     o = parity_of (int_div_euclid n (pos d))
 
-    choose : (part : Part) → IsSplit n d (int_div_euclid n (pos d)) part → (negative : Bool) → (negative ≡ true → int_div_euclid n (pos d) <ℤ pos 0) → (negative ≡ false → pos 0 ≤ℤ int_div_euclid n (pos d)) → (upper : Bool) → takes_upper mode part negative o.odd ≡ upper → (r : ℤ) × Rounds mode n d r
+    choose : (part : Part) → IsSplit n d (int_div_euclid n (pos d)) part → (negative : Bool)
+        → (negative ≡ true → int_div_euclid n (pos d) <ℤ pos 0)
+        → (negative ≡ false → pos 0 ≤ℤ int_div_euclid n (pos d)) → (upper : Bool)
+        → takes_upper mode part negative o.odd ≡ upper → (r : ℤ) × Rounds mode n d r
     choose part split negative p q true k = (int_div_euclid n (pos d) +ℤ pos 1, rounds_upper n d (int_div_euclid n (pos d)) part mode split negative o.odd p q o.is_odd o.is_even k)
     choose part split negative p q false k = (int_div_euclid n (pos d), rounds_lower n d (int_div_euclid n (pos d)) part mode split negative o.odd p q o.is_odd o.is_even k)
 
@@ -101,9 +107,27 @@ ends false w f t = omega (arith, ints, pow_pos w)
 
 saturates_some : (s : Bool) (w : ℕ) (f : ℤ) (r : ℤ) → IsType (Num s w f) → (v : ℤ) × Saturates (Num s w f) r v × InRange (Num s w f) v
 saturates_some s w f r t = by_lt_z r (lowest_of (Num s w f))
-    (λ h. (lowest_of (Num s w f), record { inside = λ i. absurd (omega (arith, ints, h, i.low)); below = λ _. refl; above = λ k. absurd (omega (arith, ints, h, k, ends s w f t)) }, record { low = omega (arith, ints); high = ends s w f t }))
+    (λ h. (
+      lowest_of (Num s w f),
+      record {
+        inside = λ i. absurd (omega (arith, ints, h, i.low));
+        below =
+            λ _. refl;
+        above = λ k. absurd (omega (arith, ints, h, k, ends s w f t));
+      },
+      record { low = omega (arith, ints); high = ends s w f t },
+    ))
     (λ low. by_lt_z (highest_of (Num s w f)) r
-    (λ h. (highest_of (Num s w f), record { inside = λ i. absurd (omega (arith, ints, h, i.high)); below = λ k. absurd (omega (arith, ints, h, k, ends s w f t)); above = λ _. refl }, record { low = ends s w f t; high = omega (arith, ints) }))
+    (λ h. (
+      highest_of (Num s w f),
+      record {
+        inside = λ i. absurd (omega (arith, ints, h, i.high));
+        below =
+            λ k. absurd (omega (arith, ints, h, k, ends s w f t));
+        above = λ _. refl;
+      },
+      record { low = ends s w f t; high = omega (arith, ints) },
+    ))
     (λ high. (r, record { inside = λ _. refl; below = λ k. absurd (omega (arith, ints, k, low)); above = λ k. absurd (omega (arith, ints, k, high)) }, record { low = low; high = high })))
 
 wrapped_some : (s : Bool) (w : ℕ) (f : ℤ) (r : ℤ) → IsType (Num s w f) → (v : ℤ) × IsWrapped r w s v × InRange (Num s w f) v
@@ -121,15 +145,54 @@ wrapped_some true w f r t = go (cases_lt e.rest (2 ^ (w - 1)))
     go : (e.rest < 2 ^ (w - 1)) ⊎ (2 ^ (w - 1) ≤ e.rest) → (v : ℤ) × IsWrapped r w true v × InRange (Num true w f) v
     go (inl h) =
         let low : neg_ℤ (pos (2 ^ (w - 1))) ≤ℤ pos e.rest = omega (arith, ints) in
-        let high : pos e.rest ≤ℤ pos (2 ^ (w - 1) - 1) = omega (arith, ints, h) in
-        (pos e.rest, record { in_word = record { low = low; high = high }; congruent = record { turns = neg_ℤ (int_div_euclid r (pos (2 ^ w))); equal = omega (arith, ints, e.whole, turn_back (int_div_euclid r (pos (2 ^ w))) (2 ^ w)) } }, record { low = low; high = high })
+        let high : pos e.rest ≤ℤ pos (2 ^ (w - 1) - 1) = omega (arith, ints, h) in (
+          pos e.rest,
+          record {
+            in_word = record { low = low; high = high };
+            congruent =
+                record {
+                  turns = neg_ℤ (int_div_euclid r (pos (2 ^ w)));
+                  equal =
+                      omega (arith, ints, e.whole, turn_back (int_div_euclid r (pos (2 ^ w))) (2 ^ w));
+                };
+          },
+          record { low = low; high = high },
+        )
     go (inr h) =
         let v = pos e.rest +ℤ neg_ℤ (pos (2 ^ w)) in
         let low : neg_ℤ (pos (2 ^ (w - 1))) ≤ℤ v = omega (arith, ints, h, double w width) in
-        let high : v ≤ℤ pos (2 ^ (w - 1) - 1) = omega (arith, ints, e.below, pow_pos (w - 1)) in
-        (v, record { in_word = record { low = low; high = high }; congruent = record { turns = neg_ℤ (int_div_euclid r (pos (2 ^ w)) +ℤ pos 1); equal = omega (arith, ints, e.whole, turn_back (int_div_euclid r (pos (2 ^ w)) +ℤ pos 1) (2 ^ w), next-scaled (int_div_euclid r (pos (2 ^ w))) (2 ^ w)) } }, record { low = low; high = high })
-wrapped_some false w f r t =
-    (pos e.rest, record { in_word = record { low = low; high = high }; congruent = record { turns = neg_ℤ (int_div_euclid r (pos (2 ^ w))); equal = omega (arith, ints, e.whole, scaled-neg (int_div_euclid r (pos (2 ^ w))) (2 ^ w)) } }, record { low = low; high = high })
+        let high : v ≤ℤ pos (2 ^ (w - 1) - 1) = omega (arith, ints, e.below, pow_pos (w - 1)) in (
+          v,
+          record {
+            in_word = record { low = low; high = high };
+            congruent =
+                record {
+                  turns = neg_ℤ (int_div_euclid r (pos (2 ^ w)) +ℤ pos 1);
+                  equal =
+                      omega (
+                        arith,
+                        ints,
+                        e.whole,
+                        turn_back (int_div_euclid r (pos (2 ^ w)) +ℤ pos 1) (2 ^ w),
+                        next-scaled (int_div_euclid r (pos (2 ^ w))) (2 ^ w),
+                      );
+                };
+          },
+          record { low = low; high = high },
+        )
+wrapped_some false w f r t = (
+  pos e.rest,
+  record {
+    in_word = record { low = low; high = high };
+    congruent =
+        record {
+          turns = neg_ℤ (int_div_euclid r (pos (2 ^ w)));
+          equal =
+              omega (arith, ints, e.whole, scaled-neg (int_div_euclid r (pos (2 ^ w))) (2 ^ w));
+        };
+  },
+  record { low = low; high = high },
+)
   where
     e : IsDivided r (2 ^ w) (int_div_euclid r (pos (2 ^ w)))
     e = divided r (2 ^ w) (pow_pos w)

@@ -1,5 +1,6 @@
 -- The whole number that each mode takes, from the split of a number.
-use Rattle.std.proofs.Common.{◌≡◌, ℕ, ◌+◌, ◌*◌, ◌<◌, ◌≤◌, Bool, true, false, not, ℤ, pos, negsuc, ◌+ℤ◌, ◌*ℤ◌, ◌≤ℤ◌, ◌<ℤ◌, ap, sym, refl, subst, arith, true≢false, int_div, int_rem, zero, suc, ◌%◌, ◌/◌, neg_ℤ, of_z, eqb, eqb-true}
+use Rattle.std.proofs.Common.{◌≡◌, ℕ, ◌+◌, ◌*◌, ◌<◌, ◌≤◌, Bool, true, false, not, ℤ, pos, negsuc, ◌+ℤ◌, ◌*ℤ◌, ◌≤ℤ◌, ◌<ℤ◌, ap, sym, refl, subst, arith, true≢false, int_div, int_rem, zero, suc, ◌%◌}
+use Rattle.std.proofs.Common.{◌/◌, neg_ℤ, of_z, eqb, eqb-true}
 use Rattle.std.specs.Int.{w128, from_bool}
 use Rattle.std.proofs.lemmas.Int.{ints}
 use Rattle.math_num.proofs.Arithmetic.{next-scaled, scaled-mono}
@@ -96,16 +97,41 @@ module _ (n : ℤ) (d : ℕ) (floor : ℤ) (rest : ℕ) (whole : n ≡ floor *�
   upper Ceiling Half i e = up_high n d floor rest whole below (omega (arith, i))
   upper Ceiling AboveHalf i e = up_high n d floor rest whole below (omega (arith, i))
   upper Zero Whole i e = absurd (true≢false (sym e))
-  upper Zero BelowHalf i e = record { not_negative = λ h. absurd (omega (arith, ints, h, negative_number n d floor rest whole below (is_negative e))); negative = λ _. up_high n d floor rest whole below (omega (arith, i)) }
-  upper Zero Half i e = record { not_negative = λ h. absurd (omega (arith, ints, h, negative_number n d floor rest whole below (is_negative e))); negative = λ _. up_high n d floor rest whole below (omega (arith, i)) }
-  upper Zero AboveHalf i e = record { not_negative = λ h. absurd (omega (arith, ints, h, negative_number n d floor rest whole below (is_negative e))); negative = λ _. up_high n d floor rest whole below (omega (arith, i)) }
+  upper Zero BelowHalf i e = record {
+    not_negative =
+        λ h. absurd (omega (arith, ints, h, negative_number n d floor rest whole below (is_negative e)));
+    negative =
+        λ _. up_high n d floor rest whole below (omega (arith, i));
+  }
+  upper Zero Half i e = record {
+    not_negative =
+        λ h. absurd (omega (arith, ints, h, negative_number n d floor rest whole below (is_negative e)));
+    negative =
+        λ _. up_high n d floor rest whole below (omega (arith, i));
+  }
+  upper Zero AboveHalf i e = record {
+    not_negative =
+        λ h. absurd (omega (arith, ints, h, negative_number n d floor rest whole below (is_negative e)));
+    negative =
+        λ _. up_high n d floor rest whole below (omega (arith, i));
+  }
   upper Nearest Whole i e = absurd (true≢false (sym e))
   upper Nearest BelowHalf i e = absurd (true≢false (sym e))
   upper Nearest Half i e = ties_up_high n d floor rest whole below (omega (arith, i))
   upper Nearest AboveHalf i e = ties_up_high n d floor rest whole below (omega (arith, i))
   upper Round Whole i e = absurd (true≢false (sym e))
   upper Round BelowHalf i e = absurd (true≢false (sym e))
-  upper Round Half i e = record { not_negative = λ _. ties_up_high n d floor rest whole below (omega (arith, i)); negative = λ h. absurd (omega (arith, ints, h, other_number n d floor rest whole below (not_negative (not-true negative e)))) }
+  upper Round Half i e = record {
+    not_negative =
+        λ _. ties_up_high n d floor rest whole below (omega (arith, i));
+    negative =
+        λ h. absurd (omega (
+          arith,
+          ints,
+          h,
+          other_number n d floor rest whole below (not_negative (not-true negative e)),
+        ));
+  }
   upper Round AboveHalf i e = record { not_negative = λ _. ties_up_high n d floor rest whole below (omega (arith, i)); negative = λ _. ties_down_high n d floor rest whole below i }
   upper Convergent Whole i e = absurd (true≢false (sym e))
   upper Convergent BelowHalf i e = absurd (true≢false (sym e))
@@ -122,16 +148,35 @@ module _ (n : ℤ) (d : ℕ) (floor : ℤ) (rest : ℕ) (whole : n ≡ floor *�
   lower Ceiling Half i e = absurd (true≢false e)
   lower Ceiling AboveHalf i e = absurd (true≢false e)
   lower Zero Whole i e = record { not_negative = λ _. down_low n d floor rest whole below; negative = λ _. up_low n d floor rest whole below i }
-  lower Zero BelowHalf i e = record { not_negative = λ _. down_low n d floor rest whole below; negative = λ h. absurd (omega (arith, ints, h, other_number n d floor rest whole below (not_negative e))) }
+  lower Zero BelowHalf i e = record {
+    not_negative = λ _. down_low n d floor rest whole below;
+    negative =
+        λ h. absurd (omega (arith, ints, h, other_number n d floor rest whole below (not_negative e)));
+  }
   lower Zero Half i e = record { not_negative = λ _. down_low n d floor rest whole below; negative = λ h. absurd (omega (arith, ints, h, other_number n d floor rest whole below (not_negative e))) }
-  lower Zero AboveHalf i e = record { not_negative = λ _. down_low n d floor rest whole below; negative = λ h. absurd (omega (arith, ints, h, other_number n d floor rest whole below (not_negative e))) }
+  lower Zero AboveHalf i e = record {
+    not_negative = λ _. down_low n d floor rest whole below;
+    negative =
+        λ h. absurd (omega (arith, ints, h, other_number n d floor rest whole below (not_negative e)));
+  }
   lower Nearest Whole i e = ties_up_low n d floor rest whole below (omega (arith, i))
   lower Nearest BelowHalf i e = ties_up_low n d floor rest whole below (omega (arith, i))
   lower Nearest Half i e = absurd (true≢false e)
   lower Nearest AboveHalf i e = absurd (true≢false e)
   lower Round Whole i e = record { not_negative = λ _. ties_up_low n d floor rest whole below (omega (arith, i)); negative = λ _. ties_down_low n d floor rest whole below (omega (arith, i)) }
   lower Round BelowHalf i e = record { not_negative = λ _. ties_up_low n d floor rest whole below (omega (arith, i)); negative = λ _. ties_down_low n d floor rest whole below (omega (arith, i)) }
-  lower Round Half i e = record { not_negative = λ h. absurd (omega (arith, ints, h, negative_number n d floor rest whole below (is_negative (not-false negative e)))); negative = λ _. ties_down_low n d floor rest whole below (omega (arith, i)) }
+  lower Round Half i e = record {
+    not_negative =
+        λ h. absurd (omega (
+          arith,
+          ints,
+          h,
+          negative_number n d floor rest whole below
+              (is_negative (not-false negative e)),
+        ));
+    negative =
+        λ _. ties_down_low n d floor rest whole below (omega (arith, i));
+  }
   lower Round AboveHalf i e = absurd (true≢false e)
   lower Convergent Whole i e = even_low n d floor rest whole below (omega (arith, i))
   lower Convergent BelowHalf i e = even_low n d floor rest whole below (omega (arith, i))
@@ -164,14 +209,23 @@ odd_test z h = odd_of z (λ e. true≢false (sym (rw e at h)))
 pub even_test : (z : ℤ) → not (eqb (of_z w128 (int_rem z (pos 2))) 0) ≡ false → IsEven z
 even_test z h = even_of z (last_bit z (eqb-true _ _ (not-false _ h)))
 
-pub rounds_upper : (n : ℤ) (d : ℕ) (floor : ℤ) (part : Part) (mode : Rounding) → IsSplit n d floor part → (negative odd : Bool) → (negative ≡ true → floor <ℤ pos 0) → (negative ≡ false → pos 0 ≤ℤ floor) → (odd ≡ true → IsEven (floor +ℤ pos 1)) → (odd ≡ false → IsEven floor) → takes_upper mode part negative odd ≡ true → Rounds mode n d (floor +ℤ pos 1)
+pub rounds_upper : (n : ℤ) (d : ℕ) (floor : ℤ) (part : Part) (mode : Rounding) → IsSplit n d floor part
+    → (negative odd : Bool) → (negative ≡ true → floor <ℤ pos 0) → (negative ≡ false → pos 0 ≤ℤ floor)
+    → (odd ≡ true → IsEven (floor +ℤ pos 1)) → (odd ≡ false → IsEven floor)
+    → takes_upper mode part negative odd ≡ true → Rounds mode n d (floor +ℤ pos 1)
 rounds_upper n d floor part mode s negative odd a b c e u = upper n d floor s.rest s.whole s.below negative odd a b c e mode part s.is_part u
 
-pub rounds_lower : (n : ℤ) (d : ℕ) (floor : ℤ) (part : Part) (mode : Rounding) → IsSplit n d floor part → (negative odd : Bool) → (negative ≡ true → floor <ℤ pos 0) → (negative ≡ false → pos 0 ≤ℤ floor) → (odd ≡ true → IsEven (floor +ℤ pos 1)) → (odd ≡ false → IsEven floor) → takes_upper mode part negative odd ≡ false → Rounds mode n d floor
+pub rounds_lower : (n : ℤ) (d : ℕ) (floor : ℤ) (part : Part) (mode : Rounding) → IsSplit n d floor part
+    → (negative odd : Bool) → (negative ≡ true → floor <ℤ pos 0) → (negative ≡ false → pos 0 ≤ℤ floor)
+    → (odd ≡ true → IsEven (floor +ℤ pos 1)) → (odd ≡ false → IsEven floor)
+    → takes_upper mode part negative odd ≡ false → Rounds mode n d floor
 rounds_lower n d floor part mode s negative odd a b c e u = lower n d floor s.rest s.whole s.below negative odd a b c e mode part s.is_part u
 
 -- the lower one, or the next
-pub rounds_next : (n : ℤ) (d : ℕ) (floor : ℤ) (part : Part) (mode : Rounding) → IsSplit n d floor part → (negative odd : Bool) → (negative ≡ true → floor <ℤ pos 0) → (negative ≡ false → pos 0 ≤ℤ floor) → (odd ≡ true → IsEven (floor +ℤ pos 1)) → (odd ≡ false → IsEven floor) → (next : Bool) → next ≡ takes_upper mode part negative odd → Rounds mode n d (floor +ℤ pos (from_bool next))
+pub rounds_next : (n : ℤ) (d : ℕ) (floor : ℤ) (part : Part) (mode : Rounding) → IsSplit n d floor part
+    → (negative odd : Bool) → (negative ≡ true → floor <ℤ pos 0) → (negative ≡ false → pos 0 ≤ℤ floor)
+    → (odd ≡ true → IsEven (floor +ℤ pos 1)) → (odd ≡ false → IsEven floor) → (next : Bool)
+    → next ≡ takes_upper mode part negative odd → Rounds mode n d (floor +ℤ pos (from_bool next))
 rounds_next n d floor part mode s negative odd a b c e true u = rounds_upper n d floor part mode s negative odd a b c e (sym u)
 rounds_next n d floor part mode s negative odd a b c e false u =
     let same : floor ≡ floor +ℤ pos 0 = omega (arith, ints) in subst (Rounds mode n d) same (rounds_lower n d floor part mode s negative odd a b c e (sym u))

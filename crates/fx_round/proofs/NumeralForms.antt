@@ -1,5 +1,6 @@
 -- What is read of a decimal has the form of one, and a form is read.
-use Rattle.std.proofs.Common.{◌≡◌, ℕ, ◌+◌, ◌-◌, ◌*◌, ◌≤◌, ◌⊎◌, inl, inr, Bool, true, false, cond, ◌&&◌, ◌||◌, Option, Some, None, List, [], ◌∷◌, ◌++◌, length, ap, ap₂, sym, ◌∙◌, refl, subst, arith, rules, eqb, length-append, min, ℤ, pos, ◌-ℤ◌, ⊎_elim, Result, Ok, Err, MatchResult}
+use Rattle.std.proofs.Common.{◌≡◌, ℕ, ◌+◌, ◌-◌, ◌*◌, ◌≤◌, ◌⊎◌, inl, inr, Bool, true, false, cond, ◌&&◌, ◌||◌, Option, Some, None, List, [], ◌∷◌, ◌++◌, length, ap, ap₂, sym, ◌∙◌, refl, subst, arith}
+use Rattle.std.proofs.Common.{rules, eqb, length-append, min, ℤ, pos, ◌-ℤ◌, ⊎_elim, Result, Ok, Err, MatchResult}
 use Rattle.std.specs.Prelude.{codes}
 use Rattle.std.specs.List.{list_all}
 use Rattle.std.specs.Char.{is_ascii_digit, digit_value}
@@ -9,7 +10,8 @@ use Rattle.std.proofs.lemmas.Bool.Decides.{nat_tests}
 use Rattle.std.proofs.lemmas.List.Folds.{list_all-append}
 use Rattle.fx_type.specs.declared.decimal.Decimal.{Decimal}
 use Rattle.fx_round.specs.DecimalText.{AreDigits, IsSign, signed, IsFraction, IsExponent, IsNumeral, IsShort, IsDecimalOf, IsLong}
-use Rattle.fx_round.specs.inner.PlainDecimals.{front_digits, after_digits, is_minus, after_sign, fraction_digits, after_fraction, one_or_two, signed_some, exponent_of, whole_digits, fraction_of, all_digits, Explains}
+use Rattle.fx_round.specs.inner.PlainDecimals.{front_digits, after_digits, is_minus, after_sign, fraction_digits, after_fraction, one_or_two, signed_some, exponent_of, whole_digits, fraction_of}
+use Rattle.fx_round.specs.inner.PlainDecimals.{all_digits, Explains}
 use Rattle.fx_round.specs.declared.decimal.DecimalFault.{DecimalFault}
 use Rattle.fx_round.specs.declared.decimal.DecimalFault.TheVariants.{NotANumber, TooLong}
 use Rattle.fx_round.proofs.Digits.{digit_is}
@@ -60,7 +62,10 @@ digits_form : (text : List ℕ) → AreDigits (front_digits text) × (text ≡ f
 digits_form [] = (refl, refl)
 digits_form (c ∷ cs) = by_test (is_ascii_digit c) refl (digits_form cs)
   where
-    by_test : (t : Bool) → is_ascii_digit c ≡ t → AreDigits (front_digits cs) × (cs ≡ front_digits cs ++ after_digits cs) → AreDigits (cond t (c ∷ front_digits cs) []) × (c ∷ cs ≡ cond t (c ∷ front_digits cs) [] ++ cond t (after_digits cs) (c ∷ cs))
+    by_test : (t : Bool) → is_ascii_digit c ≡ t
+        → AreDigits (front_digits cs) × (cs ≡ front_digits cs ++ after_digits cs)
+        → AreDigits (cond t (c ∷ front_digits cs) [])
+        × (c ∷ cs ≡ cond t (c ∷ front_digits cs) [] ++ cond t (after_digits cs) (c ∷ cs))
     by_test true e more = (and_from (is_ascii_digit c) (list_all is_ascii_digit (front_digits cs)) e more.0, ap (λ l. c ∷ l) more.1)
     by_test false e more = (refl, refl)
 
@@ -213,7 +218,9 @@ digits_read (c ∷ digits) tail all stops =
 abbrev is_point : ℕ → Bool
 is_point c = eqb c 46
 
-fraction_read : (point digits written : List ℕ) → IsFraction point digits → AreDigits digits → Stops is_ascii_digit written → Stops is_point written → (fraction_digits (point ++ written) ≡ digits) × (after_fraction (point ++ written) ≡ written)
+fraction_read : (point digits written : List ℕ) → IsFraction point digits → AreDigits digits
+    → Stops is_ascii_digit written → Stops is_point written
+    → (fraction_digits (point ++ written) ≡ digits) × (after_fraction (point ++ written) ≡ written)
 fraction_read point digits written (inl e) all stops no_point = rw e (digits_read digits written all stops)
 fraction_read point digits [] (inr (e, none)) all stops no_point = rw e (sym none, refl)
 fraction_read point digits (c ∷ cs) (inr (e, none)) all stops no_point = rw e (ap (λ t. cond t (front_digits cs) []) no_point ∙ sym none, ap (λ t. cond t (after_digits cs) (c ∷ cs)) no_point)
@@ -261,7 +268,10 @@ count_read (a ∷ b ∷ []) all some few =
     let back = digit_is b last.0 in
     rw tests.0 (rw last.0 (ap Some (omega (arith, front, back))))
 
-exponent_behind : (sign digits : List ℕ) (negative : Bool) → IsSign sign negative → AreDigits digits → 1 ≤ length digits → length digits ≤ 2 → signed_some (is_minus (sign ++ digits)) (one_or_two (after_sign (sign ++ digits))) ≡ Some (signed negative (digits_value 10 digits))
+exponent_behind : (sign digits : List ℕ) (negative : Bool) → IsSign sign negative → AreDigits digits
+    → 1 ≤ length digits → length digits ≤ 2
+    → signed_some (is_minus (sign ++ digits)) (one_or_two (after_sign (sign ++ digits)))
+    ≡ Some (signed negative (digits_value 10 digits))
 exponent_behind sign digits negative is_sign all some few =
     let cut = sign_read sign digits negative is_sign (digits_no_sign digits all) in
     rw cut.0 (rw cut.1 (rw (count_read digits all some few) refl))
@@ -322,7 +332,8 @@ false_is_none = no_digit (codes "false") refl
 
 -- ---- what was read
 pub read_known : (text : List ℕ) (r : Result Decimal DecimalFault) (digits behind : ℕ) (written : ℤ) (negative : Bool)
-    → MatchResult r (λ d. IsShort digits behind written × (d.negative ≡ negative) × (d.digits ≡ digits) × (d.exponent ≡ written -ℤ pos behind)) (λ fault. (fault ≡ TooLong) × (¬ IsShort digits behind written))
+    → MatchResult r (λ d. IsShort digits behind written × (d.negative ≡ negative) × (d.digits ≡ digits)
+    × (d.exponent ≡ written -ℤ pos behind)) (λ fault. (fault ≡ TooLong) × (¬ IsShort digits behind written))
     → negative ≡ is_minus text → digits ≡ min (all_digits text) 1000000000000000000 → behind ≡ length (fraction_of text)
     → 1 ≤ length (whole_digits text) + length (fraction_of text) → exponent_of (after_fraction (after_digits (after_sign text))) ≡ Some written
     → MatchResult r (IsDecimalOf text) (Explains text)

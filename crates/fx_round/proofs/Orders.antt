@@ -106,7 +106,9 @@ settles_only : (s : Bool) (w : ℕ) (f : ℤ) (saturate : Bool) (q result : ℤ)
 settles_only s w f true q result h i e = e.inside i
 settles_only s w f false q result h i e = word_only w s result q (word_width w s f h) e.in_word (record { low = i.low; high = i.high }) e.congruent
 
-stores_only : (n : ℤ) (d : ℕ) (s : Bool) (w : ℕ) (f : ℤ) (mode : Rounding) (saturate : Bool) (q result : ℤ) → 0 < d → IsType (Num s w f) → InRange (Num s w f) q → n ≡ q *ℤ pos d → StoresQuotient n d (Num s w f) mode saturate result → result ≡ q
+stores_only : (n : ℤ) (d : ℕ) (s : Bool) (w : ℕ) (f : ℤ) (mode : Rounding) (saturate : Bool) (q result : ℤ) → 0 < d
+    → IsType (Num s w f) → InRange (Num s w f) q → n ≡ q *ℤ pos d
+    → StoresQuotient n d (Num s w f) mode saturate result → result ≡ q
 stores_only n d s w f mode saturate q result h t i e k =
     let r : k.rounded ≡ q = exact_only mode q d k.rounded h (subst (λ (z : ℤ). Rounds mode z d k.rounded) e k.rounds) in
     settles_only s w f saturate q result t i (subst (λ (z : ℤ). Settles (Num s w f) saturate z result) r k.settles)

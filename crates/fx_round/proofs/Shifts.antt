@@ -1,5 +1,6 @@
 -- Shifts down and up.
-use Rattle.std.proofs.Common.{◌≡◌, ℕ, suc, ◌+◌, ◌-◌, ◌*◌, ◌/◌, ◌%◌, ◌^◌, ◌<◌, ◌≤◌, ℤ, pos, negsuc, ◌+ℤ◌, ◌*ℤ◌, ◌<ℤ◌, ap, sym, ◌∙◌, refl, arith, bit_and, of_z, FitsSigned, pow_pos, pow_mono, div-add-mod', mul-le-mul_left, mod-lt, lt_of_le_of_lt, inl, inr}
+use Rattle.std.proofs.Common.{◌≡◌, ℕ, suc, ◌+◌, ◌-◌, ◌*◌, ◌/◌, ◌%◌, ◌^◌, ◌<◌, ◌≤◌, ℤ, pos, negsuc, ◌+ℤ◌, ◌*ℤ◌, ◌<ℤ◌, ap, sym, ◌∙◌, refl, arith, bit_and, of_z, FitsSigned, pow_pos, pow_mono}
+use Rattle.std.proofs.Common.{div-add-mod', mul-le-mul_left, mod-lt, lt_of_le_of_lt, inl, inr}
 use Rattle.std.specs.Int.{w128}
 use Rattle.std.specs.Int.Signed.{shr_z, mag_shr}
 use Rattle.std.proofs.lemmas.Int.{ints}

@@ -1,5 +1,6 @@
 -- Magnitudes of decimals.
-use Rattle.std.proofs.Common.{◌≡◌, ℕ, ◌+◌, ◌-◌, ◌*◌, ◌/◌, ◌%◌, ◌^◌, ◌<◌, ◌≤◌, true, false, ℤ, pos, negsuc, ◌+ℤ◌, ◌*ℤ◌, neg_ℤ, ◌≤ℤ◌, ap, sym, ◌∙◌, refl, subst, arith, pow_pos, pow_mono, mul-le-mul_left, mul-le-mul_right, div-add-mod', mod-lt, inl, inr, mul-lt-mul_of_pos_right}
+use Rattle.std.proofs.Common.{◌≡◌, ℕ, ◌+◌, ◌-◌, ◌*◌, ◌/◌, ◌%◌, ◌^◌, ◌<◌, ◌≤◌, true, false, ℤ, pos, negsuc, ◌+ℤ◌, ◌*ℤ◌, neg_ℤ, ◌≤ℤ◌, ap, sym, ◌∙◌, refl, subst, arith, pow_pos, pow_mono}
+use Rattle.std.proofs.Common.{mul-le-mul_left, mul-le-mul_right, div-add-mod', mod-lt, inl, inr, mul-lt-mul_of_pos_right}
 use Rattle.std.proofs.lemmas.Int.{ints}
 use Rattle.std.proofs.lemmas.Nat.{pow-add, le-div}
 use Rattle.std.proofs.Math.Nat.{one-le-pow, pow-le-pow_right}
@@ -82,10 +83,12 @@ size_up count unit by up down size raised none is = rw (raised, none) (subst (λ
 pub size_down : (count unit by up down : ℕ) (split : Split) → up ≡ 0 → down ≡ by → IsMagnitude count (unit * 2 ^ by) split → IsMagnitude (count * 2 ^ up) (unit * 2 ^ down) split
 size_down count unit by up down split none lowered is = rw (none, lowered) (subst (λ (n : ℕ). IsMagnitude n (unit * 2 ^ by) split) (omega arith) is)
 
-pub whole_size : (whole count tens up down : ℕ) (size : Option Split) → whole ≡ count → tens ≡ 0 → IsSize ((whole * 1 + 0) * 2 ^ up) (1 * 2 ^ down) size → IsSize (count * 2 ^ up) (10 ^ tens * 2 ^ down) size
+pub whole_size : (whole count tens up down : ℕ) (size : Option Split) → whole ≡ count → tens ≡ 0
+    → IsSize ((whole * 1 + 0) * 2 ^ up) (1 * 2 ^ down) size → IsSize (count * 2 ^ up) (10 ^ tens * 2 ^ down) size
 whole_size whole count tens up down size same none is = rw none (subst (λ (n : ℕ). IsSize (n * 2 ^ up) (1 * 2 ^ down) size) (omega (arith, same)) is)
 
-pub part_size : (whole rest power digits tens ups up down : ℕ) (size : Option Split) → whole * power + rest ≡ digits → power ≡ 10 ^ tens → ups ≡ 0 → IsSize ((whole * power + rest) * 2 ^ up) (power * 2 ^ down) size
+pub part_size : (whole rest power digits tens ups up down : ℕ) (size : Option Split) → whole * power + rest ≡ digits
+    → power ≡ 10 ^ tens → ups ≡ 0 → IsSize ((whole * power + rest) * 2 ^ up) (power * 2 ^ down) size
     → IsSize (digits * 10 ^ ups * 2 ^ up) (10 ^ tens * 2 ^ down) size
 part_size whole rest power digits tens ups up down size same unit none is = rw (none, sym unit) (subst (λ (n : ℕ). IsSize (n * 2 ^ up) (power * 2 ^ down) size) (omega (arith, same)) is)
 
@@ -98,7 +101,8 @@ mirror_whole n floor floor' d e s = record {
   is_part = refl;
 }
 
-pub mirror_split : (n floor floor' : ℤ) (d : ℕ) (part part' : Part) → floor' ≡ negsuc 0 +ℤ neg_ℤ floor → (s : IsSplit n d floor part) → 0 < s.rest → IsPart d (d - s.rest) part' → IsSplit (neg_ℤ n) d floor' part'
+pub mirror_split : (n floor floor' : ℤ) (d : ℕ) (part part' : Part) → floor' ≡ negsuc 0 +ℤ neg_ℤ floor
+    → (s : IsSplit n d floor part) → 0 < s.rest → IsPart d (d - s.rest) part' → IsSplit (neg_ℤ n) d floor' part'
 mirror_split n floor floor' d part part' e s h p = record {
   rest = d - s.rest;
   whole = (let k : floor' *ℤ pos d ≡ neg_ℤ (pos d) +ℤ neg_ℤ (floor *ℤ pos d) =
@@ -155,7 +159,12 @@ huge_low n d t v h g =
     elim (cases_lt 0 m) [
       | inl l ↦ low_from floor (d - m) (omega (arith, ints, f, e)) (omega arith) (omega (arith, ints, q, lowest_bound t v))
       | inr k ↦ (let f' : neg_ℤ (pos (n / d)) *ℤ pos d ≡ neg_ℤ (pos (n / d * d)) = scaled-neg (pos (n / d)) d in
-          record { rounded = neg_ℤ (pos (n / d)); rounds = ties_up_low (neg_ℤ (pos n)) d (neg_ℤ (pos (n / d))) 0 (omega (arith, ints, f', e)) h (omega arith); settles = saturates_low t _ (omega (arith, ints, q, lowest_bound t v)) })
+          record {
+            rounded = neg_ℤ (pos (n / d));
+            rounds =
+                ties_up_low (neg_ℤ (pos n)) d (neg_ℤ (pos (n / d))) 0 (omega (arith, ints, f', e)) h (omega arith);
+            settles = saturates_low t _ (omega (arith, ints, q, lowest_bound t v));
+          })
     ]
   where
     low_from : (floor : ℤ) (rest : ℕ) → neg_ℤ (pos n) ≡ floor *ℤ pos d +ℤ pos rest → rest < d → (floor +ℤ pos 1) ≤ℤ lowest_of t → StoresQuotient (neg_ℤ (pos n)) d t Nearest true (lowest_of t)

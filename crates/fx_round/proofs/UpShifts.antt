@@ -32,7 +32,8 @@ raised_stays false v bits by width some h number = record {
 }
 
 -- the same where the signs are found equal
-pub raised_stays_in : (from_signed signed : Bool) (v : ℤ) (bits by width : ℕ) → beq from_signed signed ≡ true → 1 ≤ bits → bits + by ≤ width → InWord bits from_signed v → InWord width signed (v *ℤ pos (2 ^ by))
+pub raised_stays_in : (from_signed signed : Bool) (v : ℤ) (bits by width : ℕ) → beq from_signed signed ≡ true
+    → 1 ≤ bits → bits + by ≤ width → InWord bits from_signed v → InWord width signed (v *ℤ pos (2 ^ by))
 raised_stays_in true true v bits by width e some h number = raised_stays true v bits by width some h number
 raised_stays_in true false v bits by width e some h number = absurd (false≢true e)
 raised_stays_in false true v bits by width e some h number = absurd (false≢true e)

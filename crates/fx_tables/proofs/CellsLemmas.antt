@@ -24,7 +24,9 @@ record IsGood (dash hit range : Bool) : Type 0 where
   number : hit ≡ true → (dash ≡ false) × (range ≡ true)
   none : hit ≡ false → dash ≡ true
 
-good : (dash hit whole range : Bool) → (if dash then (if hit then Some DashAtHit else None) else if not whole then Some NotWhole else if not hit then Some NumberOffHit else if range then None else Some OutOfRange) ≡ None → IsGood dash hit range
+good : (dash hit whole range : Bool) → (if dash then
+    (if hit then Some DashAtHit else None) else if not whole then Some NotWhole else if not hit then Some
+    NumberOffHit else if range then None else Some OutOfRange) ≡ None → IsGood dash hit range
 good true true whole range is = absurd (none-some _ (sym is))
 good true false whole range is = record { number = λ h. absurd (false≢true h); none = λ h. refl }
 good false hit false range is = absurd (none-some _ (sym is))
@@ -48,7 +50,9 @@ second_none : {A : Type 0} (a b : Option A) → option_or a b ≡ None → b ≡
 second_none None b is = is
 second_none (Some x) b is = absurd (none-some x (sym is))
 
-line_cell : (sample k : ℕ) (columns : List Column) (fields : List (List ℕ)) (column : Column) (value : ℤ) → fields_fault sample columns fields ≡ None → slice_get columns k ≡ Some column → slice_get (map cell_of fields) k ≡ Some value → IsCell column sample value
+line_cell : (sample k : ℕ) (columns : List Column) (fields : List (List ℕ)) (column : Column) (value : ℤ)
+    → fields_fault sample columns fields ≡ None → slice_get columns k ≡ Some column
+    → slice_get (map cell_of fields) k ≡ Some value → IsCell column sample value
 line_cell sample k [] fields column value is at reads = absurd (none-some column at)
 line_cell sample k (c ∷ columns) [] column value is at reads = absurd (none-some value reads)
 line_cell sample zero (c ∷ columns) (field ∷ fields) column value is at reads =
@@ -73,7 +77,10 @@ whole_line true same fault is = absurd (none-some _ (sym is))
 whole_line false true fault is = (refl, is)
 whole_line false false fault is = absurd (none-some _ (sym is))
 
-lines_cell : (columns : List Column) (outputs first sample k : ℕ) (texts : List (List ℕ)) (column : Column) (value : ℤ) → lines_fault columns outputs first texts ≡ None → sample < length texts → slice_get columns k ≡ Some column → slice_get (flat_map cells_of texts) (sample * length columns + k) ≡ Some value → IsCell column (first + sample) value
+lines_cell : (columns : List Column) (outputs first sample k : ℕ) (texts : List (List ℕ)) (column : Column)
+    (value : ℤ) → lines_fault columns outputs first texts ≡ None → sample < length texts
+    → slice_get columns k ≡ Some column → slice_get (flat_map cells_of texts) (sample * length columns + k)
+    ≡ Some value → IsCell column (first + sample) value
 lines_cell columns outputs first sample k [] column value is inside at reads = absurd (omega arith)
 lines_cell columns outputs first zero k (text ∷ texts) column value is inside at reads =
     let here = no_fault_here (line_fault columns outputs first text) (first + 1) (lines_fault columns outputs (first + 1) texts) is in
@@ -81,7 +88,9 @@ lines_cell columns outputs first zero k (text ∷ texts) column value is inside 
     let counted : length (fields_of text) ≡ length columns = search (rules, nat_tests, fields.0) in
     let cell_inside : k < length (cells_of text) = omega (arith, length-map (fields_of text) cell_of, slice_get_within columns k column at) in
     let place : 0 * length columns + k ≡ k = omega arith in
-    let read : slice_get (cells_of text) k ≡ Some value = sym (get_front (cells_of text) (flat_map cells_of texts) k cell_inside) ∙ ap (slice_get (cells_of text ++ flat_map cells_of texts)) (sym place) ∙ reads in
+    let read : slice_get (cells_of text) k ≡ Some value =
+    sym (get_front (cells_of text) (flat_map cells_of texts) k cell_inside)
+    ∙ ap (slice_get (cells_of text ++ flat_map cells_of texts)) (sym place) ∙ reads in
     subst (λ (s : ℕ). IsCell column s value) (let same : first ≡ first + 0 = omega arith in same) (line_cell first k columns (fields_of text) column value fields.1 at read)
 lines_cell columns outputs first (suc sample) k (text ∷ texts) column value is inside at reads =
     let here = no_fault_here (line_fault columns outputs first text) (first + 1) (lines_fault columns outputs (first + 1) texts) is in
@@ -93,7 +102,10 @@ lines_cell columns outputs first (suc sample) k (text ∷ texts) column value is
     (lines_cell columns outputs (first + 1) sample k texts column value here.1 (omega arith) at read)
 
 -- the numbers of a whole stimulus fit
-pub stimulus_cell : (columns : List Column) (outputs count sample k : ℕ) (text : List ℕ) (cells : List ℤ) (column : Column) (value : ℤ) → lines_fault columns outputs 0 (lines text) ≡ None → count ≡ length (lines text) → cells ≡ flat_map cells_of (lines text) → sample < count → slice_get columns k ≡ Some column → slice_get cells (sample * length columns + k) ≡ Some value → IsCell column sample value
+pub stimulus_cell : (columns : List Column) (outputs count sample k : ℕ) (text : List ℕ) (cells : List ℤ)
+    (column : Column) (value : ℤ) → lines_fault columns outputs 0 (lines text) ≡ None → count ≡ length (lines text)
+    → cells ≡ flat_map cells_of (lines text) → sample < count → slice_get columns k ≡ Some column
+    → slice_get cells (sample * length columns + k) ≡ Some value → IsCell column sample value
 stimulus_cell columns outputs count sample k text cells column value is counted numbers inside at reads =
     subst (λ (s : ℕ). IsCell column s value) (let same : 0 + sample ≡ sample = omega arith in same)
     (lines_cell columns outputs 0 sample k (lines text) column value is (omega arith) at

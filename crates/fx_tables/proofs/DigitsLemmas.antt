@@ -23,7 +23,8 @@ abbrev pub with_digit : ℕ → Bool → ℕ → ℕ
 with_digit value is_there digit = if is_there then value * 10 + (digit - 48) else value
 
 -- a run of one to three digits
-few_digits : (text tail : List ℕ) (count value : ℕ) → 0 < count → count ≤ 3 → 4 ≤ length text → list_all is_ascii_digit (take count text) ≡ true → value ≡ digits_value 10 (take count text) → value < 1000
+few_digits : (text tail : List ℕ) (count value : ℕ) → 0 < count → count ≤ 3 → 4 ≤ length text
+    → list_all is_ascii_digit (take count text) ≡ true → value ≡ digits_value 10 (take count text) → value < 1000
     → is_blank (get_or text count 0) ≡ true → fields_of tail ≡ fields_of (drop count text) → IsRunOfDigits text value tail
 few_digits text tail count value some most long digits number small blank rest_is = record {
   count = count;
@@ -38,7 +39,13 @@ few_digits text tail count value some most long digits number small blank rest_i
 }
 
 -- one to three digits, of which it is known which are there
-pub run_of_few : (text tail : List ℕ) (second third : Bool) → 4 ≤ length text → is_ascii_digit (get_or text 0 0) ≡ true → (second ≡ true → is_ascii_digit (get_or text 1 0) ≡ true) → (third ≡ true → is_ascii_digit (get_or text 2 0) ≡ true) → is_blank (get_or text (1 + from_bool second + from_bool (second && third)) 0) ≡ true → fields_of tail ≡ fields_of (drop (1 + from_bool second + from_bool (second && third)) text) → IsRunOfDigits text (with_digit (with_digit (get_or text 0 0 - 48) second (get_or text 1 0)) (second && third) (get_or text 2 0)) tail
+pub run_of_few : (text tail : List ℕ) (second third : Bool) → 4 ≤ length text
+    → is_ascii_digit (get_or text 0 0) ≡ true → (second ≡ true → is_ascii_digit (get_or text 1 0) ≡ true)
+    → (third ≡ true → is_ascii_digit (get_or text 2 0) ≡ true)
+    → is_blank (get_or text (1 + from_bool second + from_bool (second && third)) 0) ≡ true
+    → fields_of tail ≡ fields_of (drop (1 + from_bool second + from_bool (second && third)) text)
+    → IsRunOfDigits text (with_digit (with_digit (get_or text 0 0 - 48) second (get_or text 1 0))
+    (second && third) (get_or text 2 0)) tail
 run_of_few [] tail second third long first next last blank rest_is = absurd (omega arith)
 run_of_few (a ∷ []) tail second third long first next last blank rest_is = absurd (omega arith)
 run_of_few (a ∷ b ∷ []) tail second third long first next last blank rest_is = absurd (omega arith)
@@ -69,7 +76,8 @@ is_number-digits field some few digits =
     rw (one, most, digits)
 
 -- a text of digits
-plain_field : (field : List ℕ) → 0 < length field → length field ≤ 18 → list_all is_ascii_digit field ≡ true → (is_whole field ≡ true) × (is_dash field ≡ false) × (whole_value field ≡ pos (digits_value 10 field))
+plain_field : (field : List ℕ) → 0 < length field → length field ≤ 18 → list_all is_ascii_digit field ≡ true
+    → (is_whole field ≡ true) × (is_dash field ≡ false) × (whole_value field ≡ pos (digits_value 10 field))
 plain_field [] some few digits = absurd (omega arith)
 plain_field (b ∷ field) some few digits =
     let no : eqb b 45 ≡ false = no_minus b (and_parts (is_ascii_digit b) (list_all is_ascii_digit field) digits).0 in
@@ -81,7 +89,9 @@ plain_field (b ∷ field) some few digits =
     )
 
 -- a minus and digits
-minus_field : (field : List ℕ) → 0 < length field → length field ≤ 18 → list_all is_ascii_digit field ≡ true → (is_whole (45 ∷ field) ≡ true) × (is_dash (45 ∷ field) ≡ false) × (whole_value (45 ∷ field) ≡ neg_ℤ (pos (digits_value 10 field)))
+minus_field : (field : List ℕ) → 0 < length field → length field ≤ 18 → list_all is_ascii_digit field ≡ true
+    → (is_whole (45 ∷ field) ≡ true) × (is_dash (45 ∷ field) ≡ false)
+    × (whole_value (45 ∷ field) ≡ neg_ℤ (pos (digits_value 10 field)))
 minus_field field some few digits =
     let long : eqb (length (45 ∷ field)) 1 ≡ false = search (rules, nat_tests) in
     (is_number-digits field some few digits, ap (λ one. one && true) long, refl)
@@ -130,7 +140,9 @@ first_minus text tail value run =
     }
 
 -- the first field from its digits, with no minus before them, or with one
-pub first_number : (minus : Bool) (rest text tail : List ℕ) (value : ℕ) → minus ≡ starts_with_minus rest → text ≡ drop (from_bool minus) rest → IsRunOfDigits text value tail → IsFirstNumber rest (signed minus value) tail
+pub first_number : (minus : Bool) (rest text tail : List ℕ) (value : ℕ) → minus ≡ starts_with_minus rest
+    → text ≡ drop (from_bool minus) rest → IsRunOfDigits text value tail
+    → IsFirstNumber rest (signed minus value) tail
 first_number false rest text tail value is behind run = subst (λ (r : List ℕ). IsFirstNumber r (pos value) tail) behind (first_plain text tail value run)
 first_number true [] text tail value is behind run = absurd (false≢true (sym is))
 first_number true (b ∷ rest) text tail value is behind run =

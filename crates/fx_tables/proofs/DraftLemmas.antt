@@ -48,7 +48,10 @@ one_number : (numbers : List ℕ) (old slot : Option ℕ) (count : ℕ) → numb
 one_number numbers old slot count is none set =
     ap (λ l. l ++ count ∷ []) (is ∙ ap option_to_list (none_from old none)) ∙ ap option_to_list (sym set)
 
-pub add_cycles : (draft : Draft) (earlier : List PlanEntry) (count : ℕ) (new : Bool) (slot : Option ℕ) → new ≡ is_none draft.cycles → OnTrue new (slot ≡ Some count) → Describes draft earlier → (new ≡ not (is_repeated earlier (Cycles count))) × OnTrue new (Describes (record draft { cycles = slot }) (earlier ++ Cycles count ∷ []))
+pub add_cycles : (draft : Draft) (earlier : List PlanEntry) (count : ℕ) (new : Bool) (slot : Option ℕ)
+    → new ≡ is_none draft.cycles → OnTrue new (slot ≡ Some count) → Describes draft earlier
+    → (new ≡ not (is_repeated earlier (Cycles count)))
+    × OnTrue new (Describes (record draft { cycles = slot }) (earlier ++ Cycles count ∷ []))
 add_cycles draft earlier count new slot fresh set d = (
   fresh ∙ none_said draft.cycles (filter_map cycles_of earlier) d.clocks,
   OnTrue_from new (Describes (record draft { cycles = slot }) (earlier ++ Cycles count ∷ [])) (λ yes. record {
@@ -59,7 +62,10 @@ add_cycles draft earlier count new slot fresh set d = (
   }),
 )
 
-pub add_multipliers : (draft : Draft) (earlier : List PlanEntry) (count : ℕ) (new : Bool) (slot : Option ℕ) → new ≡ is_none draft.multipliers → OnTrue new (slot ≡ Some count) → Describes draft earlier → (new ≡ not (is_repeated earlier (Multipliers count))) × OnTrue new (Describes (record draft { multipliers = slot }) (earlier ++ Multipliers count ∷ []))
+pub add_multipliers : (draft : Draft) (earlier : List PlanEntry) (count : ℕ) (new : Bool) (slot : Option ℕ)
+    → new ≡ is_none draft.multipliers → OnTrue new (slot ≡ Some count) → Describes draft earlier
+    → (new ≡ not (is_repeated earlier (Multipliers count)))
+    × OnTrue new (Describes (record draft { multipliers = slot }) (earlier ++ Multipliers count ∷ []))
 add_multipliers draft earlier count new slot fresh set d = (
   fresh ∙ none_said draft.multipliers (filter_map multipliers_of earlier) d.shared,
   OnTrue_from new (Describes (record draft { multipliers = slot }) (earlier ++ Multipliers count ∷ [])) (λ yes. record {
@@ -80,7 +86,12 @@ either true false = refl
 either false true = refl
 either false false = refl
 
-pub more_paths : (old new : BTreeSet (Vec ℕ Global)) (pipelines : List Pipeline) (pipeline : Pipeline) (key path : Vec ℕ Global) → key.items ≡ pipeline.path → contains path_cmp old path ≡ list_any (λ other. bytes_eq other.path path.items) pipelines → Updates path_cmp old new key true → contains path_cmp new path ≡ list_any (λ other. bytes_eq other.path path.items) (pipelines ++ pipeline ∷ [])
+pub more_paths : (old new : BTreeSet (Vec ℕ Global)) (pipelines : List Pipeline) (pipeline : Pipeline)
+    (key path : Vec ℕ Global) → key.items ≡ pipeline.path
+    → contains path_cmp old path ≡ list_any (λ other. bytes_eq other.path path.items) pipelines
+    → Updates path_cmp old new key true
+    → contains path_cmp new path
+    ≡ list_any (λ other. bytes_eq other.path path.items) (pipelines ++ pipeline ∷ [])
 more_paths old new pipelines pipeline key path is before updates =
     updates.0 path
     ∙ ap (λ found. cond found true (contains path_cmp old path)) (is_eq-slice_cmp key.items path.items ∙ ap (λ items. bytes_eq items path.items) is)
@@ -89,13 +100,19 @@ more_paths old new pipelines pipeline key path is before updates =
     ∙ sym (list_any-append (λ other. bytes_eq other.path path.items) pipelines (pipeline ∷ []))
 
 -- a path that was there already
-pub path_repeated : (draft : Draft) (earlier : List PlanEntry) (pipeline : Pipeline) (key : Vec ℕ Global) → key.items ≡ pipeline.path → Describes draft earlier → contains path_cmp draft.paths key ≡ is_repeated earlier (Pipelined pipeline)
+pub path_repeated : (draft : Draft) (earlier : List PlanEntry) (pipeline : Pipeline) (key : Vec ℕ Global)
+    → key.items ≡ pipeline.path → Describes draft earlier
+    → contains path_cmp draft.paths key ≡ is_repeated earlier (Pipelined pipeline)
 path_repeated draft earlier pipeline key is d =
     d.paths key
     ∙ ap (λ items. list_any (λ other. bytes_eq other.path items) draft.pipelines) is
     ∙ ap (list_any (λ other. bytes_eq other.path pipeline.path)) (sym d.registers)
 
-pub add_path : (draft : Draft) (earlier : List PlanEntry) (pipeline : Pipeline) (key : Vec ℕ Global) (paths : BTreeSet (Vec ℕ Global)) (pipelines : List Pipeline) → key.items ≡ pipeline.path → Updates path_cmp draft.paths paths key true → pipelines ≡ draft.pipelines ++ pipeline ∷ [] → Describes draft earlier → Describes (record draft { pipelines = pipelines; paths = paths }) (earlier ++ Pipelined pipeline ∷ [])
+pub add_path : (draft : Draft) (earlier : List PlanEntry) (pipeline : Pipeline) (key : Vec ℕ Global)
+    (paths : BTreeSet (Vec ℕ Global)) (pipelines : List Pipeline) → key.items ≡ pipeline.path
+    → Updates path_cmp draft.paths paths key true → pipelines ≡ draft.pipelines ++ pipeline ∷ []
+    → Describes draft earlier → Describes (record draft { pipelines = pipelines; paths = paths })
+    (earlier ++ Pipelined pipeline ∷ [])
 add_path draft earlier pipeline key paths pipelines is updates pushed d = record {
   clocks = said cycles_of earlier (Pipelined pipeline) ∙ append-nil (filter_map cycles_of earlier) ∙ d.clocks;
   shared = said multipliers_of earlier (Pipelined pipeline) ∙ append-nil (filter_map multipliers_of earlier) ∙ d.shared;

@@ -26,7 +26,9 @@ at_blank n [] fits found = absurd (omega arith)
 at_blank zero (b ∷ line) fits found = sym (fields_of-blank b line found)
 at_blank (suc n) (b ∷ line) fits found = at_blank n line (omega arith) found
 
-fields_of-at : (n : ℕ) (line : List ℕ) → 0 < n → n < length line → ((k : ℕ) → k < n → is_blank (get_or line k 0) ≡ false) → is_blank (get_or line n 0) ≡ true → fields_of line ≡ take n line ∷ fields_of (drop n line)
+fields_of-at : (n : ℕ) (line : List ℕ) → 0 < n → n < length line
+    → ((k : ℕ) → k < n → is_blank (get_or line k 0) ≡ false) → is_blank (get_or line n 0) ≡ true
+    → fields_of line ≡ take n line ∷ fields_of (drop n line)
 fields_of-at n line some fits before found =
     ap (filter is_run) (slice_split-first is_blank n line fits before found)
     ∙ filter-run (take n line) (slice_split is_blank (drop (suc n) line)) (search rules)
@@ -38,17 +40,23 @@ fields_of-whole line some before = ap (filter is_run) (slice_split-whole is_blan
 apart : (m n : ℕ) → m ≤ n → (m < n) ⊎ (m ≡ n)
 apart m n h = elim (cases_lt m n) [ inl below ↦ inl below | inr above ↦ inr (omega arith) ]
 
-by_place : (n : ℕ) (line : List ℕ) → 0 < n → ((k : ℕ) → k < n → is_blank (get_or line k 0) ≡ false) → (n < length line → is_blank (get_or line n 0) ≡ true) → (n < length line) ⊎ (n ≡ length line) → fields_of line ≡ take n line ∷ fields_of (drop n line)
+by_place : (n : ℕ) (line : List ℕ) → 0 < n → ((k : ℕ) → k < n → is_blank (get_or line k 0) ≡ false)
+    → (n < length line → is_blank (get_or line n 0) ≡ true) → (n < length line) ⊎ (n ≡ length line)
+    → fields_of line ≡ take n line ∷ fields_of (drop n line)
 by_place n line some before found (inl inside) = fields_of-at n line some inside before (found inside)
 by_place n line some before found (inr whole) =
     rw (whole, take_all (length line) line (omega arith), drop_all (length line) line (omega arith))
     (fields_of-whole line (omega arith) (λ k h. before k (omega arith)))
 
 -- a line that does not begin with a blank begins with its first field
-pub fields_of-field : (n : ℕ) (line : List ℕ) → 0 < n → n ≤ length line → ((k : ℕ) → k < n → is_blank (get_or line k 0) ≡ false) → (n < length line → is_blank (get_or line n 0) ≡ true) → fields_of line ≡ take n line ∷ fields_of (drop n line)
+pub fields_of-field : (n : ℕ) (line : List ℕ) → 0 < n → n ≤ length line
+    → ((k : ℕ) → k < n → is_blank (get_or line k 0) ≡ false) → (n < length line → is_blank (get_or line n 0) ≡ true)
+    → fields_of line ≡ take n line ∷ fields_of (drop n line)
 fields_of-field n line some fits before found = by_place n line some before found (apart n (length line) fits)
 
-pub after_blanks-drop : (n : ℕ) (line : List ℕ) → n ≤ length line → ((k : ℕ) → k < n → is_blank (get_or line k 0) ≡ true) → (n < length line → is_blank (get_or line n 0) ≡ false) → drop n line ≡ after_blanks line
+pub after_blanks-drop : (n : ℕ) (line : List ℕ) → n ≤ length line
+    → ((k : ℕ) → k < n → is_blank (get_or line k 0) ≡ true) → (n < length line → is_blank (get_or line n 0) ≡ false)
+    → drop n line ≡ after_blanks line
 after_blanks-drop zero [] fits blank found = refl
 after_blanks-drop zero (b ∷ line) fits blank found = sym (cond-false (is_blank b) (after_blanks line) (b ∷ line) (found (omega arith)))
 after_blanks-drop (suc n) [] fits blank found = absurd (omega arith)

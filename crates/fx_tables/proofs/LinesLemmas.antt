@@ -20,7 +20,9 @@ lines_of_parts-cons : (part : List ℕ) (parts : List (List ℕ)) → 0 < length
 lines_of_parts-cons part [] some = absurd (omega arith)
 lines_of_parts-cons part (next ∷ parts) some = refl
 
-pub lines-first : (n : ℕ) (text : List ℕ) → n < length text → ((k : ℕ) → k < n → is_newline (get_or text k 0) ≡ false) → is_newline (get_or text n 0) ≡ true → lines text ≡ strip_carriage_return (take n text) ∷ lines (drop (suc n) text)
+pub lines-first : (n : ℕ) (text : List ℕ) → n < length text
+    → ((k : ℕ) → k < n → is_newline (get_or text k 0) ≡ false) → is_newline (get_or text n 0) ≡ true
+    → lines text ≡ strip_carriage_return (take n text) ∷ lines (drop (suc n) text)
 lines-first n text fits before found =
     ap lines_of_parts (slice_split-first is_newline n text fits before found)
     ∙ lines_of_parts-cons (take n text) _ (omega (arith, length-slice_split is_newline (drop (suc n) text)))

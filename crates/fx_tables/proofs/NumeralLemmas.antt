@@ -64,7 +64,10 @@ flag_is n flag is = (
 )
 
 -- which of the three digits count
-pub put_three : (n end ten hundred : ℕ) (bytes : List ℕ) → n < 1000 → 3 ≤ end → end ≤ length bytes → ten ≡ from_bool (nat_lt 0 (n / 10)) → hundred ≡ from_bool (nat_lt 0 (n / 10 / 10)) → IsPut n bytes (with_three bytes end (48 + n / 10 / 10) (48 + (n / 10 - n / 10 / 10 * 10)) (48 + (n - n / 10 * 10))) end (end - 1 - ten - hundred)
+pub put_three : (n end ten hundred : ℕ) (bytes : List ℕ) → n < 1000 → 3 ≤ end → end ≤ length bytes
+    → ten ≡ from_bool (nat_lt 0 (n / 10)) → hundred ≡ from_bool (nat_lt 0 (n / 10 / 10))
+    → IsPut n bytes (with_three bytes end (48 + n / 10 / 10) (48 + (n / 10 - n / 10 / 10 * 10))
+    (48 + (n - n / 10 * 10))) end (end - 1 - ten - hundred)
 put_three n end ten hundred bytes short room within is_ten is_hundred =
     let x = 48 + n / 10 / 10 in
     let y = 48 + (n / 10 - n / 10 / 10 * 10) in

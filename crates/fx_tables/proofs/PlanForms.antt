@@ -1,5 +1,6 @@
 -- What is read of a line of a plan has its form.
-use Rattle.std.proofs.Common.{◌≡◌, ◌≢◌, ℕ, zero, suc, ◌<◌, ◌≤◌, Bool, true, false, cond, not, eqb, None, Some, Option, List, [], ◌∷◌, ◌++◌, ◌⊎◌, inl, inr, length, take, drop, get_or, refl, sym, ap, subst, ◌∙◌, ⊎_elim, arith, rules, eqb-true}
+use Rattle.std.proofs.Common.{◌≡◌, ◌≢◌, ℕ, zero, suc, ◌<◌, ◌≤◌, Bool, true, false, cond, not, eqb, None, Some, Option, List, [], ◌∷◌, ◌++◌, ◌⊎◌, inl, inr, length, take, drop, get_or, refl, sym, ap}
+use Rattle.std.proofs.Common.{subst, ◌∙◌, ⊎_elim, arith, rules, eqb-true}
 use Rattle.std.specs.Prelude.{codes, ◌&&◌, nat_le}
 use Rattle.std.specs.List.{list_all, prefix_len}
 use Rattle.std.specs.Str.{bytes_eq}
@@ -70,7 +71,9 @@ starts : (line : List ℕ) → 0 < length (after_blanks line) → is_blank (get_
 starts [] some = absurd (omega arith)
 starts (b ∷ line) some = by_test (is_blank b) refl some (starts line)
   where
-    by_test : (t : Bool) → is_blank b ≡ t → 0 < length (cond t (after_blanks line) (b ∷ line)) → (0 < length (after_blanks line) → is_blank (get_or (after_blanks line) 0 0) ≡ false) → is_blank (get_or (cond t (after_blanks line) (b ∷ line)) 0 0) ≡ false
+    by_test : (t : Bool) → is_blank b ≡ t → 0 < length (cond t (after_blanks line) (b ∷ line))
+        → (0 < length (after_blanks line) → is_blank (get_or (after_blanks line) 0 0) ≡ false)
+        → is_blank (get_or (cond t (after_blanks line) (b ∷ line)) 0 0) ≡ false
     by_test true is more before = before more
     by_test false is more before = is
 
@@ -135,7 +138,10 @@ record Counted (text : List ℕ) (entry : PlanEntry) : Type 0 where
   pub sole : Sole 1 64 (fields_of (next ∷ rest)) count
   pub is : entry ≡ Pipelined (record { path = path; count = count })
 
-pipelined_form : (text path rest : List ℕ) (next : ℕ) (entry : PlanEntry) (sole : Option ℕ) → string_behind text ≡ Some (path, next ∷ rest) → is_blank next ≡ true → sole_number 1 64 (fields_of (next ∷ rest)) ≡ sole → pipelined_entry path sole ≡ Some entry → Counted text entry
+pipelined_form : (text path rest : List ℕ) (next : ℕ) (entry : PlanEntry) (sole : Option ℕ)
+    → string_behind text ≡ Some (path, next ∷ rest) → is_blank next ≡ true
+    → sole_number 1 64 (fields_of (next ∷ rest)) ≡ sole → pipelined_entry path sole ≡ Some entry
+    → Counted text entry
 pipelined_form text path rest next entry None read blank number h = cc
 pipelined_form text path rest next entry (Some count) read blank number h = record {
   path = path;
@@ -160,7 +166,9 @@ quote_behind rest text is ends =
     let blank : is_blank 34 ≡ true = subst (λ (r : List ℕ). 8 < length r → is_blank (get_or r 8 0) ≡ true) is ends (omega arith) in
     false≢true blank
 
-pipeline_form : (line : List ℕ) (words : List (List ℕ)) (entry : PlanEntry) → fields_of line ≡ codes "pipeline" ∷ words → pipeline_entry (after_blanks (drop 8 (after_blanks line))) ≡ Some entry → Says line entry
+pipeline_form : (line : List ℕ) (words : List (List ℕ)) (entry : PlanEntry)
+    → fields_of line ≡ codes "pipeline" ∷ words
+    → pipeline_entry (after_blanks (drop 8 (after_blanks line))) ≡ Some entry → Says line entry
 pipeline_form line words entry fields h =
     let front = unblanked line in
     let rest : List ℕ = after_blanks line in
@@ -189,18 +197,24 @@ pipeline_form line words entry fields h =
     })
 
 -- a word and a count
-setting_form : (word line : List ℕ) (words : List (List ℕ)) (least greatest count : ℕ) → fields_of line ≡ word ∷ words → sole_number least greatest words ≡ Some count → IsSetting word line least greatest count
+setting_form : (word line : List ℕ) (words : List (List ℕ)) (least greatest count : ℕ)
+    → fields_of line ≡ word ∷ words → sole_number least greatest words ≡ Some count
+    → IsSetting word line least greatest count
 setting_form word line words least greatest count fields number =
     let sole = sole_form least greatest words count number in
     record { digits = sole.digits; fields = fields ∙ ap (λ l. word ∷ l) sole.is; is_count = sole.is_count }
 
-cycles_form : (line : List ℕ) (words : List (List ℕ)) (entry : PlanEntry) (sole : Option ℕ) → fields_of line ≡ codes "cycles" ∷ words → sole_number 1 1024 words ≡ sole → cycles_entry sole ≡ Some entry → Says line entry
+cycles_form : (line : List ℕ) (words : List (List ℕ)) (entry : PlanEntry) (sole : Option ℕ)
+    → fields_of line ≡ codes "cycles" ∷ words → sole_number 1 1024 words ≡ sole → cycles_entry sole ≡ Some entry
+    → Says line entry
 cycles_form line words entry None fields number h = cc
 cycles_form line words entry (Some count) fields number h =
     let is : entry ≡ Cycles count = cc in
     subst (Says line) (sym is) (setting_form (codes "cycles") line words 1 1024 count fields number)
 
-multipliers_form : (line : List ℕ) (words : List (List ℕ)) (entry : PlanEntry) (sole : Option ℕ) → fields_of line ≡ codes "multipliers" ∷ words → sole_number 0 64 words ≡ sole → multipliers_entry sole ≡ Some entry → Says line entry
+multipliers_form : (line : List ℕ) (words : List (List ℕ)) (entry : PlanEntry) (sole : Option ℕ)
+    → fields_of line ≡ codes "multipliers" ∷ words → sole_number 0 64 words ≡ sole
+    → multipliers_entry sole ≡ Some entry → Says line entry
 multipliers_form line words entry None fields number h = cc
 multipliers_form line words entry (Some count) fields number h =
     let is : entry ≡ Multipliers count = cc in
@@ -221,7 +235,9 @@ words_form line (word ∷ words) entry is h =
     let three = cond_some (bytes_eq word (codes "pipeline")) (pipeline_entry text) entry no_multipliers.1 in
     pipeline_form line words entry (first (codes "pipeline") three.0) three.1)
     (cond_cases (bytes_eq word (codes "multipliers")) (multipliers_entry (sole_number 0 64 words)) (cond (bytes_eq word (codes "pipeline")) (pipeline_entry text) None) (Some entry) no_cycles.1))
-    (cond_cases (bytes_eq word (codes "cycles")) (cycles_entry (sole_number 1 1024 words)) (cond (bytes_eq word (codes "multipliers")) (multipliers_entry (sole_number 0 64 words)) (cond (bytes_eq word (codes "pipeline")) (pipeline_entry text) None)) (Some entry) h)
+    (cond_cases (bytes_eq word (codes "cycles")) (cycles_entry (sole_number 1 1024 words))
+    (cond (bytes_eq word (codes "multipliers")) (multipliers_entry (sole_number 0 64 words))
+    (cond (bytes_eq word (codes "pipeline")) (pipeline_entry text) None)) (Some entry) h)
 
 comment_form : (line : List ℕ) → eqb (get_or line 0 0) 35 ≡ true → line ≡ codes "#" ++ drop 1 line
 comment_form [] h = cc
@@ -242,7 +258,8 @@ sole_read low high digits count is =
     let above : nat_le low (digits_value 10 digits) ≡ true = let l = is.low in let v = is.value in grind (arith, nat_tests) in
     let below : nat_le (digits_value 10 digits) high ≡ true = let l = is.high in let v = is.value in grind (arith, nat_tests) in
     cond-true (is_number 9 digits && nat_le low (digits_value 10 digits) && nat_le (digits_value 10 digits) high) (Some (digits_value 10 digits)) None
-    (and_from (is_number 9 digits && nat_le low (digits_value 10 digits)) (nat_le (digits_value 10 digits) high) (and_from (is_number 9 digits) (nat_le low (digits_value 10 digits)) is.short above) below)
+    (and_from (is_number 9 digits && nat_le low (digits_value 10 digits)) (nat_le (digits_value 10 digits) high)
+    (and_from (is_number 9 digits) (nat_le low (digits_value 10 digits)) is.short above) below)
     ∙ ap Some is.value
 
 -- a line that begins with `#` has a first field that does
@@ -258,7 +275,9 @@ hash_first (b ∷ line) word words first fields other = by_test (eqb b 35) refl
         let same : b ≡ first = let e = cut.form in cc in
         absurd (other (sym same ∙ hash))
 
-setting_read : (line : List ℕ) (word : List ℕ) (words : List (List ℕ)) (first : ℕ) (entry : Option PlanEntry) → fields_of line ≡ (first ∷ word) ∷ words → first ≢ 35 → words_entry ((first ∷ word) ∷ words) (drop 8 (after_blanks line)) ≡ entry → entry_of line ≡ entry
+setting_read : (line : List ℕ) (word : List ℕ) (words : List (List ℕ)) (first : ℕ) (entry : Option PlanEntry)
+    → fields_of line ≡ (first ∷ word) ∷ words → first ≢ 35
+    → words_entry ((first ∷ word) ∷ words) (drop 8 (after_blanks line)) ≡ entry → entry_of line ≡ entry
 setting_read line word words first entry fields other read =
     cond-false (eqb (get_or line 0 0) 35) (Some Passed) (words_entry (fields_of line) (drop 8 (after_blanks line))) (hash_first line word words first fields other)
     ∙ ap (λ fs. words_entry fs (drop 8 (after_blanks line))) fields
@@ -290,7 +309,9 @@ pipeline_read : (line path : List ℕ) (count : ℕ) → IsPipelineLine line pat
 pipeline_read line path count says =
     let behind : List ℕ = says.between ++ 34 ∷ says.text in
     let place : after_blanks line ≡ codes "pipeline" ++ behind = ap after_blanks says.form ∙ blanks_over says.before (codes "pipeline" ++ behind) says.blanks in
-    let fields : fields_of line ≡ codes "pipeline" ∷ fields_of behind = sym (same_fields line) ∙ ap fields_of place ∙ pipeline_first says.between (34 ∷ says.text) says.blanks_between says.some_between in
+    let fields : fields_of line ≡ codes "pipeline" ∷ fields_of behind =
+    sym (same_fields line) ∙ ap fields_of place
+    ∙ pipeline_first says.between (34 ∷ says.text) says.blanks_between says.some_between in
     let gap : after_blanks behind ≡ 34 ∷ says.text = blanks_over says.between (34 ∷ says.text) says.blanks_between in
     setting_read line (drop 1 (codes "pipeline")) (fields_of behind) 112 (Some (Pipelined (record { path = path; count = count }))) fields (λ e. omega (arith, e))
     (

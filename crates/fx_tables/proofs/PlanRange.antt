@@ -16,7 +16,9 @@ use Rattle.std.proofs.lemmas.Slice.Eq.{bytes_eq-Decides}
 
 -- ---- what the lines say
 
-clocks-in : (said : List (List ℕ)) (entries : List PlanEntry) → SayEach said entries → (1 ≤ slice_index_or (filter_map cycles_of entries) 0 1) × (slice_index_or (filter_map cycles_of entries) 0 1 ≤ 1024)
+clocks-in : (said : List (List ℕ)) (entries : List PlanEntry) → SayEach said entries
+    → (1 ≤ slice_index_or (filter_map cycles_of entries) 0 1)
+    × (slice_index_or (filter_map cycles_of entries) 0 1 ≤ 1024)
 clocks-in said [] say = (omega arith, omega arith)
 clocks-in [] (entry ∷ entries) say = absurd say
 clocks-in (line ∷ said) (Passed ∷ entries) say = clocks-in said entries say.1
@@ -58,7 +60,9 @@ named-last earlier pipeline =
     ∙ list_any-append (λ (other : Pipeline). bytes_eq other.path pipeline.path) (filter_map pipeline_of earlier) (pipeline ∷ [])
     ∙ or_right (is-named pipeline.path earlier) (bytes_eq pipeline.path pipeline.path || false) (ap (λ b. b || false) ((bytes_eq-Decides pipeline.path pipeline.path).1 refl))
 
-apart-from : (path : List ℕ) (earlier entries : List PlanEntry) → AreOnce earlier entries → is-named path earlier ≡ true → AllByRecursion (λ (other : Pipeline). path ≢ other.path) (filter_map pipeline_of entries)
+apart-from : (path : List ℕ) (earlier entries : List PlanEntry) → AreOnce earlier entries
+    → is-named path earlier ≡ true
+    → AllByRecursion (λ (other : Pipeline). path ≢ other.path) (filter_map pipeline_of entries)
 apart-from path earlier [] once named = tt
 apart-from path earlier (Passed ∷ entries) once named = apart-from path (earlier ++ Passed ∷ []) entries once.1 (named-more path earlier Passed named)
 apart-from path earlier (Cycles count ∷ entries) once named = apart-from path (earlier ++ Cycles count ∷ []) entries once.1 (named-more path earlier (Cycles count) named)

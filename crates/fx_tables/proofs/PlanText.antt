@@ -18,7 +18,10 @@ use Rattle.fx_tables.proofs.PlanForms.{entry_form, form_entry}
 abbrev Good : List PlanEntry → List (List ℕ) → List PlanEntry → Type 0
 Good earlier lines entries = SayEach lines entries × AreOnce earlier entries
 
-good_more : (earlier : List PlanEntry) (line : List ℕ) (later : List (List ℕ)) (entries : List PlanEntry) (found : Option PlanEntry) → entry_of line ≡ found → is_bad_entry earlier found ≡ false → Good (earlier ++ option_to_list found) later entries → Good earlier (line ∷ later) (cons_option found entries)
+good_more : (earlier : List PlanEntry) (line : List ℕ) (later : List (List ℕ)) (entries : List PlanEntry)
+    (found : Option PlanEntry) → entry_of line ≡ found → is_bad_entry earlier found ≡ false
+    → Good (earlier ++ option_to_list found) later entries
+    → Good earlier (line ∷ later) (cons_option found entries)
 good_more earlier line later entries None is fine more = absurd (true≢false fine)
 good_more earlier line later entries (Some entry) is fine more = ((entry_form line entry is, more.0), (fine, more.1))
 
@@ -52,7 +55,10 @@ record Broken (earlier : List PlanEntry) (number : ℕ) (lines : List (List ℕ)
   pub is_bad : (entry : PlanEntry) → Says bad entry → is_repeated (earlier ++ entries) entry ≡ true
   pub is : fault ≡ Bad (number + length before) PlanLine
 
-broken_more : (earlier : List PlanEntry) (number : ℕ) (line : List ℕ) (later : List (List ℕ)) (fault : TableFault) (found : Option PlanEntry) → entry_of line ≡ found → is_bad_entry earlier found ≡ false → Broken (earlier ++ option_to_list found) (number + 1) later fault → Broken earlier number (line ∷ later) fault
+broken_more : (earlier : List PlanEntry) (number : ℕ) (line : List ℕ) (later : List (List ℕ)) (fault : TableFault)
+    (found : Option PlanEntry) → entry_of line ≡ found → is_bad_entry earlier found ≡ false
+    → Broken (earlier ++ option_to_list found) (number + 1) later fault
+    → Broken earlier number (line ∷ later) fault
 broken_more earlier number line later fault None is fine more = absurd (true≢false fine)
 broken_more earlier number line later fault (Some entry) is fine more = record {
   before = line ∷ more.before;
@@ -86,4 +92,16 @@ broken earlier number (line ∷ later) fault h = ⊎_elim
 pub fault_said : (text : List ℕ) (fault : TableFault) → plan_fault text ≡ Some fault → IsPlanFault text fault
 fault_said text fault h =
     let first = broken [] 1 (lines text) fault h in
-    record { before = first.before; bad = first.bad; after = first.after; entries = first.entries; whole = first.whole; say = first.say; once = first.once; is_bad = first.is_bad; is = first.is ∙ ap (λ n. Bad n PlanLine) (omega arith) }
+    record {
+      before = first.before;
+      bad = first.bad;
+      after = first.after;
+      entries = first.entries;
+      whole =
+          first.whole;
+      say = first.say;
+      once = first.once;
+      is_bad =
+          first.is_bad;
+      is = first.is ∙ ap (λ n. Bad n PlanLine) (omega arith);
+    }

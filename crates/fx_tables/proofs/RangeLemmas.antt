@@ -40,7 +40,9 @@ range_cycles draft count slot is range d = record {
   known = d.known;
 }
 
-pub range_multipliers : (draft : Draft) (count : ℕ) (slot : Option ℕ) → slot ≡ Some count → IsEntryInRange (Multipliers count) → IsDraftInRange draft → IsDraftInRange (record draft { multipliers = slot })
+pub range_multipliers : (draft : Draft) (count : ℕ) (slot : Option ℕ) → slot ≡ Some count
+    → IsEntryInRange (Multipliers count) → IsDraftInRange draft
+    → IsDraftInRange (record draft { multipliers = slot })
 range_multipliers draft count slot is range d = record {
   clocks = d.clocks;
   shared = if_slot (λ count. count ≤ 64) slot count is range;
@@ -50,7 +52,12 @@ range_multipliers draft count slot is range d = record {
 }
 
 -- a path that was not there
-pub range_path : (draft : Draft) (pipeline : Pipeline) (key : Vec ℕ Global) (paths : BTreeSet (Vec ℕ Global)) (pipelines : List Pipeline) → key.items ≡ pipeline.path → list_any (λ other. bytes_eq other.path key.items) draft.pipelines ≡ false → Updates path_cmp draft.paths paths key true → pipelines ≡ draft.pipelines ++ pipeline ∷ [] → IsRegisterCount pipeline → IsDraftInRange draft → IsDraftInRange (record draft { pipelines = pipelines; paths = paths })
+pub range_path : (draft : Draft) (pipeline : Pipeline) (key : Vec ℕ Global) (paths : BTreeSet (Vec ℕ Global))
+    (pipelines : List Pipeline) → key.items ≡ pipeline.path
+    → list_any (λ other. bytes_eq other.path key.items) draft.pipelines ≡ false
+    → Updates path_cmp draft.paths paths key true → pipelines ≡ draft.pipelines ++ pipeline ∷ []
+    → IsRegisterCount pipeline → IsDraftInRange draft
+    → IsDraftInRange (record draft { pipelines = pipelines; paths = paths })
 range_path draft pipeline key paths pipelines is none updates pushed range d = record {
   clocks = d.clocks;
   shared = d.shared;

@@ -26,7 +26,9 @@ module _ (periods : List ℕ) (row : ℕ → List ℤ) where
       (cases_lt t (suc k))
 
   -- a part of a line more
-  pub took-part : (t samples : ℕ) (before mid now : Option (List ℕ)) → t < samples → mid ≡ also_took before (response periods row t) → TookProperPrefix mid now (response_line periods t (row t)) → TookProperPrefix before now (response periods row samples)
+  pub took-part : (t samples : ℕ) (before mid now : Option (List ℕ)) → t < samples
+      → mid ≡ also_took before (response periods row t) → TookProperPrefix mid now (response_line periods t (row t))
+      → TookProperPrefix before now (response periods row samples)
   took-part t samples before mid now below is part =
       let f = front (suc t) samples (omega (arith, below)) in
       let done = response periods row t in

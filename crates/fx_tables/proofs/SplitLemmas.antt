@@ -3,7 +3,9 @@ use Rattle.std.proofs.Common.{◌≡◌, ℕ, zero, suc, ◌<◌, Bool, true, fa
 use Rattle.std.specs.List.{slice_split, onto_first}
 use Rattle.std.proofs.lemmas.List.Splits.{slice_split-cons_yes, slice_split-cons_no}
 
-pub slice_split-first : (p : ℕ → Bool) (n : ℕ) (xs : List ℕ) → n < length xs → ((k : ℕ) → k < n → p (get_or xs k 0) ≡ false) → p (get_or xs n 0) ≡ true → slice_split p xs ≡ take n xs ∷ slice_split p (drop (suc n) xs)
+pub slice_split-first : (p : ℕ → Bool) (n : ℕ) (xs : List ℕ) → n < length xs
+    → ((k : ℕ) → k < n → p (get_or xs k 0) ≡ false) → p (get_or xs n 0) ≡ true
+    → slice_split p xs ≡ take n xs ∷ slice_split p (drop (suc n) xs)
 slice_split-first p zero [] fits before found = absurd (omega arith)
 slice_split-first p zero (x ∷ xs) fits before found = slice_split-cons_yes p x xs found
 slice_split-first p (suc n) [] fits before found = absurd (omega arith)

@@ -13,21 +13,28 @@ use Rattle.fx_tables.specs.declared.table.TableCause.{TableCause}
 use Rattle.fx_tables.specs.declared.table.TableCause.TheVariants.{FieldCount, TooManyRows}
 
 -- a good field leaves the fault to those behind it
-pub fields_fault-more : (sample k : ℕ) (columns : List Column) (unused : Column) (field : List ℕ) (fields all : List (List ℕ)) → k < length columns → all ≡ field ∷ fields → field_fault sample (get_or columns k unused) field ≡ None → fields_fault sample (drop (k + 1) columns) fields ≡ fields_fault sample (drop k columns) all
+pub fields_fault-more : (sample k : ℕ) (columns : List Column) (unused : Column) (field : List ℕ)
+    (fields all : List (List ℕ)) → k < length columns → all ≡ field ∷ fields
+    → field_fault sample (get_or columns k unused) field ≡ None
+    → fields_fault sample (drop (k + 1) columns) fields ≡ fields_fault sample (drop k columns) all
 fields_fault-more sample k columns unused field fields all inside is good =
     sym (ap (λ fault. option_or fault (fields_fault sample (drop (k + 1) columns) fields)) good)
     ∙ ap (λ left. fields_fault sample left (field ∷ fields)) (sym (drop_more columns k unused inside))
     ∙ ap (fields_fault sample (drop k columns)) (sym is)
 
 -- the line at the bound is the first bad one
-pub lines_fault-too_many : (columns : List Column) (outputs sample : ℕ) (line : List ℕ) (later all : List (List ℕ)) → all ≡ line ∷ later → is_too_large (length columns) outputs (sample + 1) ≡ true → lines_fault columns outputs sample all ≡ Some (Bad (sample + 1) TooManyRows)
+pub lines_fault-too_many : (columns : List Column) (outputs sample : ℕ) (line : List ℕ) (later all : List (List ℕ))
+    → all ≡ line ∷ later → is_too_large (length columns) outputs (sample + 1) ≡ true
+    → lines_fault columns outputs sample all ≡ Some (Bad (sample + 1) TooManyRows)
 lines_fault-too_many columns outputs sample line later all is large =
     ap (lines_fault columns outputs sample) is
     ∙ ap (λ fault. fault_or fault (sample + 1) (lines_fault columns outputs (sample + 1) later))
     (cond-true (is_too_large (length columns) outputs (sample + 1)) (Some TooManyRows) (count_or_fields_fault columns sample (fields_of line)) large)
 
 -- a good line leaves it to the later ones
-pub lines_fault-good : (columns : List Column) (outputs sample : ℕ) (line : List ℕ) (later all : List (List ℕ)) → all ≡ line ∷ later → is_too_large (length columns) outputs (sample + 1) ≡ false → count_or_fields_fault columns sample (fields_of line) ≡ None
+pub lines_fault-good : (columns : List Column) (outputs sample : ℕ) (line : List ℕ) (later all : List (List ℕ))
+    → all ≡ line ∷ later → is_too_large (length columns) outputs (sample + 1) ≡ false
+    → count_or_fields_fault columns sample (fields_of line) ≡ None
     → lines_fault columns outputs (sample + 1) later ≡ lines_fault columns outputs sample all
 lines_fault-good columns outputs sample line later all is small good =
     sym (ap (lines_fault columns outputs sample) is
@@ -38,11 +45,14 @@ lines_fault-good columns outputs sample line later all is small good =
 pub wrong_count : (columns : List Column) (sample : ℕ) (fields : List (List ℕ)) (fault : TableFault) → (length fields ≡ length columns → ⊥) → fault ≡ Bad (sample + 1) FieldCount
     → fault_or (count_or_fields_fault columns sample fields) (sample + 1) None ≡ Some fault
 wrong_count columns sample fields fault other is =
-    ap (λ cause. fault_or cause (sample + 1) None) (cond-false (eqb (length fields) (length columns)) (fields_fault sample columns fields) (Some FieldCount) (ne_eqb (length fields) (length columns) other))
+    ap (λ cause. fault_or cause (sample + 1) None)
+    (cond-false (eqb (length fields) (length columns)) (fields_fault sample columns fields) (Some FieldCount)
+    (ne_eqb (length fields) (length columns) other))
     ∙ ap Some (sym is)
 
 -- a line whose fields were all good
-pub no_fault : (columns : List Column) (sample : ℕ) (fields left : List (List ℕ)) → length fields ≡ length columns → fields_fault sample (drop (length columns) columns) left ≡ fields_fault sample columns fields
+pub no_fault : (columns : List Column) (sample : ℕ) (fields left : List (List ℕ)) → length fields ≡ length columns
+    → fields_fault sample (drop (length columns) columns) left ≡ fields_fault sample columns fields
     → count_or_fields_fault columns sample fields ≡ None
 no_fault columns sample fields left same before =
     cond-true (eqb (length fields) (length columns)) (fields_fault sample columns fields) (Some FieldCount) (eq-eqb (length fields) (length columns) same)
@@ -50,7 +60,9 @@ no_fault columns sample fields left same before =
 
 -- a line with a bad field, and with its count of fields or another
 pub bad_field : (columns : List Column) (sample k : ℕ) (unused : Column) (fields left rest : List (List ℕ)) (field : List ℕ) (cause : TableCause) (fault : TableFault) → k < length columns
-    → k + length left ≡ length fields → fields_fault sample (drop k columns) left ≡ fields_fault sample columns fields → left ≡ field ∷ rest → field_fault sample (get_or columns k unused) field ≡ Some cause
+    → k + length left ≡ length fields → fields_fault sample (drop k columns) left
+    ≡ fields_fault sample columns fields → left ≡ field ∷ rest
+    → field_fault sample (get_or columns k unused) field ≡ Some cause
     → fault ≡ Bad (sample + 1) (cond (eqb (length rest) (length columns - k - 1)) cause FieldCount) → fault_or (count_or_fields_fault columns sample fields) (sample + 1) None ≡ Some fault
 bad_field columns sample k unused fields left rest field cause fault inside counted before first bad is =
     ⊎_elim
@@ -60,7 +72,9 @@ bad_field columns sample k unused fields left rest field cause fault inside coun
     ∙ ap Some (sym (is ∙ ap (Bad (sample + 1)) (cond-true (eqb (length rest) (length columns - k - 1)) cause FieldCount (eq-eqb (length rest) (length columns - k - 1) (left_over same))))))
     (λ other.
     wrong_count columns sample fields fault other
-    (is ∙ ap (Bad (sample + 1)) (cond-false (eqb (length rest) (length columns - k - 1)) cause FieldCount (ne_eqb (length rest) (length columns - k - 1) (λ same. other (omega (arith, same, inside, counted, ap length first)))))))
+    (is ∙ ap (Bad (sample + 1)) (cond-false (eqb (length rest) (length columns - k - 1)) cause FieldCount
+    (ne_eqb (length rest) (length columns - k - 1)
+    (λ same. other (omega (arith, same, inside, counted, ap length first)))))))
     (cases_eq (length fields) (length columns))
   where
     here : fields_fault sample (drop k columns) left ≡ Some cause

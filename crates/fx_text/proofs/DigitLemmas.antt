@@ -22,7 +22,10 @@ min-digits_value_after most n (c ∷ cs) =
     ∙ ap (λ v. min (digits_value_after 10 v cs) most) (sym (step n (digit_value c) most))
     ∙ min-digits_value_after most (n * 10 + digit_value c) cs
 
-pub long_more : (ds : List ℕ) (i value next : ℕ) → i < length ds → IsAsciiDigit (get_or ds i 0) → next ≡ min (min (value * 10) (2 ^ 128 - 1) + (get_or ds i 0 - 48)) (2 ^ 128 - 1) → min (digits_value_after 10 next (drop (i + 1) ds)) (2 ^ 128 - 1) ≡ min (digits_value_after 10 value (drop i ds)) (2 ^ 128 - 1)
+pub long_more : (ds : List ℕ) (i value next : ℕ) → i < length ds → IsAsciiDigit (get_or ds i 0)
+    → next ≡ min (min (value * 10) (2 ^ 128 - 1) + (get_or ds i 0 - 48)) (2 ^ 128 - 1)
+    → min (digits_value_after 10 next (drop (i + 1) ds)) (2 ^ 128 - 1)
+    ≡ min (digits_value_after 10 value (drop i ds)) (2 ^ 128 - 1)
 long_more ds i value next inside digit is =
     let cut : next ≡ min (value * 10 + digit_value (get_or ds i 0)) (2 ^ 128 - 1) = omega (arith, digit_value_digit (get_or ds i 0) digit) in
     ap (λ v. min (digits_value_after 10 v (drop (i + 1) ds)) (2 ^ 128 - 1)) cut

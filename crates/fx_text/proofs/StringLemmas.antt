@@ -32,7 +32,9 @@ behind-close b [] is = cond-true (eqb b 34) (Some ([], [])) None (search (rules,
 behind-close b (c ∷ text) is = cond-true (eqb b 34) (Some ([], c ∷ text)) _ (search (rules, nat_tests))
 
 -- one byte put
-pub put_plain : (content after text : List ℕ) → 0 < length text → get_or text 0 0 ≢ 34 → (length text ≤ 1) ⊎ (get_or text 0 0 ≢ 92) → after ≡ content ++ get_or text 0 0 ∷ [] → prepend after (string_behind (drop 1 text)) ≡ prepend content (string_behind text)
+pub put_plain : (content after text : List ℕ) → 0 < length text → get_or text 0 0 ≢ 34
+    → (length text ≤ 1) ⊎ (get_or text 0 0 ≢ 92) → after ≡ content ++ get_or text 0 0 ∷ []
+    → prepend after (string_behind (drop 1 text)) ≡ prepend content (string_behind text)
 put_plain content after [] some inside plain is = absurd (omega arith)
 put_plain content after (b ∷ text) some inside plain is =
     ap (λ front. prepend front (string_behind text)) is
@@ -40,7 +42,9 @@ put_plain content after (b ∷ text) some inside plain is =
     ∙ ap (prepend content) (sym (behind-plain b text inside (elim plain [ inl lone ↦ inl (omega arith) | inr other ↦ inr other ])))
 
 -- a backslash and a byte put
-pub put_escaped : (content after text : List ℕ) → 1 < length text → get_or text 0 0 ≡ 92 → after ≡ content ++ escaped (get_or text 1 0) → prepend after (string_behind (drop 2 text)) ≡ prepend content (string_behind text)
+pub put_escaped : (content after text : List ℕ) → 1 < length text → get_or text 0 0 ≡ 92
+    → after ≡ content ++ escaped (get_or text 1 0)
+    → prepend after (string_behind (drop 2 text)) ≡ prepend content (string_behind text)
 put_escaped content after [] some is put = absurd (omega arith)
 put_escaped content after (b ∷ []) some is put = absurd (omega arith)
 put_escaped content after (b ∷ c ∷ text) some is put =
@@ -49,7 +53,9 @@ put_escaped content after (b ∷ c ∷ text) some is put =
     ∙ ap (prepend content) (sym (behind-escape b c text is))
 
 -- the quote that closes
-pub closed : (content text : List ℕ) (place : ℕ) → place < length text → get_or text place 0 ≡ 34 → prepend content (string_behind (drop place text)) ≡ string_behind text → string_behind text ≡ Some (content, drop (place + 1) text)
+pub closed : (content text : List ℕ) (place : ℕ) → place < length text → get_or text place 0 ≡ 34
+    → prepend content (string_behind (drop place text)) ≡ string_behind text
+    → string_behind text ≡ Some (content, drop (place + 1) text)
 closed content text place inside is read =
     sym read
     ∙ ap (λ left. prepend content (string_behind left)) (drop_more text place 0 inside)

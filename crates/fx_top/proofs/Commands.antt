@@ -25,7 +25,8 @@ use Rattle.cmd_replay.specs.Replayed.{IsSoundText}
 -- ---- tasks
 
 -- the word of the task that hangs on a range asks for it
-pub explored-asked : (verb first second : List ℕ) → bytes_eq verb (codes "explore") ≡ true → (range : Option Range) → range ≡ range_of second → explored first range ≡ asked_of (verb ∷ first ∷ second ∷ [])
+pub explored-asked : (verb first second : List ℕ) → bytes_eq verb (codes "explore") ≡ true → (range : Option Range)
+    → range ≡ range_of second → explored first range ≡ asked_of (verb ∷ first ∷ second ∷ [])
 explored-asked verb first second named range is =
     ap (explored first) is ∙ ap (λ (word : List ℕ). asked_of (word ∷ first ∷ second ∷ [])) (sym ((bytes_eq-Decides verb (codes "explore")).0 named))
 
@@ -55,7 +56,9 @@ same-asked first second false false false true stream = refl
 same-asked first second false false false false true = refl
 same-asked first second false false false false false = refl
 
-pub plain-asked : (verb first second : List ℕ) → bytes_eq verb (codes "explore") ≡ false → (own : Option Task) → own ≡ value_beside plain_tasks verb → option_map (over_files first second) own ≡ asked_of (verb ∷ first ∷ second ∷ [])
+pub plain-asked : (verb first second : List ℕ) → bytes_eq verb (codes "explore") ≡ false → (own : Option Task)
+    → own ≡ value_beside plain_tasks verb → option_map (over_files first second) own
+    ≡ asked_of (verb ∷ first ∷ second ∷ [])
 plain-asked verb first second other own is =
     let named : List ℕ → Bool = λ word. bytes_eq verb word in
     ap (option_map (over_files first second)) is
@@ -73,7 +76,9 @@ plain-is false false false false false = tt
 pub plain-task : (verb : List ℕ) (own : Option Task) → own ≡ value_beside plain_tasks verb → IfSome own IsTask
 plain-task verb own is =
     let named : List ℕ → Bool = λ word. bytes_eq verb word in
-    subst (λ (found : Option Task). IfSome found IsTask) (sym is) (plain-is (named (codes "generate")) (named (codes "replay")) (named (codes "simulate")) (named (codes "check")) (named (codes "stream")))
+    subst (λ (found : Option Task). IfSome found IsTask) (sym is)
+    (plain-is (named (codes "generate")) (named (codes "replay")) (named (codes "simulate"))
+    (named (codes "check")) (named (codes "stream")))
 
 -- so many words ask for nothing
 pub none_asked : {W : Type 0} (bytes : W → List ℕ) (words : List W) → (length words ≡ 2 → ⊥) → (length words ≡ 3 → ⊥) → None ≡ asked_of (map bytes words)
@@ -84,14 +89,17 @@ none_asked bytes (one ∷ other ∷ more ∷ []) two three = absurd (three refl)
 none_asked bytes (one ∷ other ∷ more ∷ most ∷ words) two three = refl
 
 -- two words, three and more
-pub two_asked : {W : Type 0} (bytes : W → List ℕ) (words more others : List W) (verb first : W) (one other : List ℕ) → words ≡ verb ∷ more → more ≡ first ∷ others → length others ≡ 0 → one ≡ bytes verb → other ≡ bytes first
+pub two_asked : {W : Type 0} (bytes : W → List ℕ) (words more others : List W) (verb first : W) (one other : List ℕ)
+    → words ≡ verb ∷ more → more ≡ first ∷ others → length others ≡ 0 → one ≡ bytes verb → other ≡ bytes first
     → asked_of (one ∷ other ∷ []) ≡ asked_of (map bytes words)
 two_asked {W} bytes words more [] verb first one other words_are more_are none one_is other_is =
     ap (λ (word : List ℕ). asked_of (word ∷ other ∷ [])) one_is ∙ ap (λ (word : List ℕ). asked_of (bytes verb ∷ word ∷ [])) other_is
     ∙ sym (ap (λ (own : List W). asked_of (map bytes own)) (words_are ∙ ap (λ (rest : List W). verb ∷ rest) more_are))
 two_asked bytes words more (next ∷ others) verb first one other words_are more_are none one_is other_is = absurd (omega (arith, none))
 
-pub three_asked : {W : Type 0} (bytes : W → List ℕ) (words more others rest : List W) (verb first second : W) (one other third : List ℕ) → words ≡ verb ∷ more → more ≡ first ∷ others → others ≡ second ∷ rest → length rest ≡ 0
+pub three_asked : {W : Type 0} (bytes : W → List ℕ) (words more others rest : List W) (verb first second : W)
+    (one other third : List ℕ) → words ≡ verb ∷ more → more ≡ first ∷ others → others ≡ second ∷ rest
+    → length rest ≡ 0
     → one ≡ bytes verb → other ≡ bytes first → third ≡ bytes second → asked_of (one ∷ other ∷ third ∷ []) ≡ asked_of (map bytes words)
 three_asked {W} bytes words more others [] verb first second one other third words_are more_are others_are none one_is other_is third_is =
     ap (λ (word : List ℕ). asked_of (word ∷ other ∷ third ∷ [])) one_is ∙ ap (λ (word : List ℕ). asked_of (bytes verb ∷ word ∷ third ∷ [])) other_is
@@ -99,7 +107,9 @@ three_asked {W} bytes words more others [] verb first second one other third wor
     ∙ sym (ap (λ (own : List W). asked_of (map bytes own)) (words_are ∙ ap (λ (left : List W). verb ∷ left) (more_are ∙ ap (λ (left : List W). first ∷ left) others_are)))
 three_asked bytes words more others (next ∷ rest) verb first second one other third words_are more_are others_are none one_is other_is third_is = absurd (omega (arith, none))
 
-pub more_asked : {W : Type 0} (bytes : W → List ℕ) (words more others rest : List W) (verb first second : W) → words ≡ verb ∷ more → more ≡ first ∷ others → others ≡ second ∷ rest → (length rest == 0) ≡ false → None ≡ asked_of (map bytes words)
+pub more_asked : {W : Type 0} (bytes : W → List ℕ) (words more others rest : List W) (verb first second : W)
+    → words ≡ verb ∷ more → more ≡ first ∷ others → others ≡ second ∷ rest → (length rest == 0) ≡ false
+    → None ≡ asked_of (map bytes words)
 more_asked bytes words more others [] verb first second words_are more_are others_are some = absurd (cc some)
 more_asked {W} bytes words more others (next ∷ rest) verb first second words_are more_are others_are some =
     sym (ap (λ (own : List W). asked_of (map bytes own)) (words_are ∙ ap (λ (left : List W). verb ∷ left) (more_are ∙ ap (λ (left : List W). first ∷ left) others_are)))
@@ -126,7 +136,8 @@ pub first-model : (command : Command) (file : List ℕ) → model_of command ≡
 first-model command file is = let own = (of-model command file is).0 in cc (is, own)
 
 pub first-verilog : (command : Command) (file : List ℕ) → verilog_of command ≡ Some file → file ≡ first_of command
-first-verilog command file is = ⊎_elim (λ (read : ReadsModel command). let none = read.1 in absurd (cc (is, none))) (λ (read : ReadsVerilog command). let own = read.1 in cc (is, own)) (reads-first command)
+first-verilog command file is = ⊎_elim (λ (read : ReadsModel command). let none = read.1 in absurd (cc (is, none)))
+    (λ (read : ReadsVerilog command). let own = read.1 in cc (is, own)) (reads-first command)
 
 -- a command that reads a model reads no Verilog text
 no-verilog : (command : Command) (model : List ℕ) → model_of command ≡ Some model → verilog_of command ≡ None

@@ -58,7 +58,9 @@ pair-first files first None answer why = why
 pair-first files first (Some second) answer why = inl why
 
 -- one of the two was not
-pub pair-unfetched : (files : Files) (command : Command) (first : List ℕ) (word : PlanWord) → files_of command ≡ first ∷ plan_files word → (answer : Answer) → IsPairAnswer files first word answer → HasCause files command answer
+pub pair-unfetched : (files : Files) (command : Command) (first : List ℕ) (word : PlanWord)
+    → files_of command ≡ first ∷ plan_files word → (answer : Answer) → IsPairAnswer files first word answer
+    → HasCause files command answer
 pair-unfetched files command first EmptyPlan are answer why =
     let asked : Contains (files_of command) first = subst (λ (names : List (List ℕ)). Contains names first) (sym are) (0, omega arith, refl) in
     cause-unfetched files command first asked None (ap (first_trouble files.held) are) answer why
@@ -69,13 +71,15 @@ pair-unfetched files command first (Named second) are answer (inr why) =
     let asked : Contains (files_of command) second = subst (λ (names : List (List ℕ)). Contains names second) (sym are) (1, omega arith, refl) in
     cause-unfetched files command second asked None (ap (first_trouble files.held) are ∙ untroubled first (files.held first) why.0 why.1.0 (trouble_or second (files.held second) None)) answer why.1.1
 
-pub pair-unwritten : (files : Files) (out : Stream) (command : Command) (first : List ℕ) (word : PlanWord) (answer : Answer) → IsUntouched out → IsPairAnswer files first word answer → HasWritten files out command answer
+pub pair-unwritten : (files : Files) (out : Stream) (command : Command) (first : List ℕ) (word : PlanWord)
+    (answer : Answer) → IsUntouched out → IsPairAnswer files first word answer → HasWritten files out command answer
 pair-unwritten files out command first EmptyPlan answer untouched why = written-unfetched files out command first answer untouched why
 pair-unwritten files out command first (Named second) answer untouched (inl why) = written-unfetched files out command first answer untouched why
 pair-unwritten files out command first (Named second) answer untouched (inr why) = written-unfetched files out command second answer untouched why.1.1
 
 -- a refused fetch that came later in the call
-pub moved : (before after : Files) (file : List ℕ) (answer : Answer) → after.held ≡ before.held → (before.steady → after.steady) → (after.failed → before.failed) → (after.met_overlong → before.met_overlong)
+pub moved : (before after : Files) (file : List ℕ) (answer : Answer) → after.held ≡ before.held
+    → (before.steady → after.steady) → (after.failed → before.failed) → (after.met_overlong → before.met_overlong)
     → IsFetchAnswer after file answer → IsFetchAnswer before file answer
 moved before after file answer held steady failed overlong why =
     ⊎_elim (λ is. inl is) (λ later. inr (⊎_elim (λ w. inl (unread' w)) (λ w. inr (unfit' w)) later)) why

@@ -38,7 +38,9 @@ plan-rule files command plan reads bytes text line fetched says (inr told) =
 pub stream-rule : (files : Files) (model : List ℕ) (plan : PlanWord) (bytes text line : List ℕ) → IsFetched files model bytes → IsPlanText files.held plan text
     → TellsRule bytes line ⊎ (TellsPlanRule bytes text line ⊎ TellsStreamRule bytes text line) → BreaksSomeRule files (StreamOf model plan) line
 stream-rule files model plan bytes text line fetched says (inl told) = plan-rule files (StreamOf model plan) plan (reads-plan (StreamOf model plan) plan refl) bytes text line fetched says (inl told)
-stream-rule files model plan bytes text line fetched says (inr (inl told)) = plan-rule files (StreamOf model plan) plan (reads-plan (StreamOf model plan) plan refl) bytes text line fetched says (inr told)
+stream-rule files model plan bytes text line fetched says (inr (inl told)) =
+    plan-rule files (StreamOf model plan) plan
+    (reads-plan (StreamOf model plan) plan refl) bytes text line fetched says (inr told)
 stream-rule files model plan bytes text line fetched says (inr (inr told)) =
     inr (inr (record { model = model; plan = plan; streams = refl; bytes = bytes; fetched = fetched; text = text; says = says; told = told }))
 

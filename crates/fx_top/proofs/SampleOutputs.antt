@@ -37,7 +37,9 @@ element_from (e ∷ elements) zero y at = (e, refl, same_Some e.block y at)
 element_from (e ∷ elements) (suc k) y at = element_from elements k y at
 
 -- a number of a block's, at the place of its element, and 0 where there is none
-number_of_some : (f : ℕ → ℕ) (elements : List RootElement) (place block : ℕ) → slice_get (map (λ (e : RootElement). e.block) elements) place ≡ Some block → f block ≡ slice_index_or (map (λ (e : RootElement). f e.block) elements) place 0
+number_of_some : (f : ℕ → ℕ) (elements : List RootElement) (place block : ℕ)
+    → slice_get (map (λ (e : RootElement). e.block) elements) place ≡ Some block
+    → f block ≡ slice_index_or (map (λ (e : RootElement). f e.block) elements) place 0
 number_of_some f [] place block at = absurd (none_some block at)
 number_of_some f (e ∷ elements) zero block at = ap f (sym (same_Some e.block block at))
 number_of_some f (e ∷ elements) (suc place) block at = number_of_some f elements place block at
@@ -58,9 +60,13 @@ module _ (diagram : Diagram) where
 
   module _ (plan : Resolved) (timing : Timing) (blocks : List ℕ) (are : AreBlocksOf (root_outputs diagram (attributes_of diagram)) blocks) (place : ℕ) where
     -- when the block at a place shows its first number
-    pub latency_there : (block clocks : ℕ) → slice_get blocks place ≡ Some block → clocks ≡ declared_latency diagram (attributes_of diagram) plan timing block → clocks ≡ latency_of_output diagram plan timing place
+    pub latency_there : (block clocks : ℕ) → slice_get blocks place ≡ Some block
+        → clocks ≡ declared_latency diagram (attributes_of diagram) plan timing block
+        → clocks ≡ latency_of_output diagram plan timing place
     latency_there block clocks at is =
-        is ∙ number_of_some (declared_latency diagram (attributes_of diagram) plan timing) (root_outputs diagram (attributes_of diagram)) place block (ap (λ (xs : List ℕ). slice_get xs place) (sym are) ∙ at)
+        is ∙ number_of_some (declared_latency diagram (attributes_of diagram) plan timing)
+        (root_outputs diagram (attributes_of diagram)) place block
+        (ap (λ (xs : List ℕ). slice_get xs place) (sym are) ∙ at)
 
     -- and where there is none
     pub latency_past : length blocks ≤ place → 0 ≡ latency_of_output diagram plan timing place
@@ -75,7 +81,9 @@ module _ (diagram : Diagram) where
 
   -- the summary of a design
   pub summed : (MayTell : List ℕ → List ℕ → List ℕ → Type 0) (number : ℕ) (plan : Resolved) (times : Times) (made : Made) (verilog response told text : List ℕ)
-      → IsDesignOf (sample_model number) sample_plan diagram plan (timing_in times) → IsWrittenOf diagram plan times verilog → IsOwed diagram plan (timing_in times) made → IsSampleResponse number response
+      → IsDesignOf (sample_model number) sample_plan diagram plan (timing_in times)
+      → IsWrittenOf diagram plan times verilog → IsOwed diagram plan (timing_in times) made
+      → IsSampleResponse number response
       → MayTell verilog (sample_stimulus number) told → text ≡ summary_text number made (equal_count response told) → IsSummaryOf MayTell number told text
   summed MayTell number plan times made verilog response told text design written owed simulated may is = record {
     diagram = diagram;

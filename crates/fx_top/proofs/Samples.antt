@@ -29,7 +29,9 @@ use Rattle.fx_top.specs.Summarized.{IsSummaryOf, IsSummed, TellsSampleRule}
 use Rattle.fx_top.proofs.Status.{carried}
 
 -- what was written by some bytes that the bench tells
-pub written-summed : (MayTell : List ℕ → List ℕ → List ℕ → Type 0) (number : ℕ) (told : List ℕ) (out : Stream) (answer : Answer) → HasSampleWritten (IsSummaryOf MayTell number told) out answer → HasSampleWritten (IsSummed MayTell number) out answer
+pub written-summed : (MayTell : List ℕ → List ℕ → List ℕ → Type 0) (number : ℕ) (told : List ℕ) (out : Stream)
+    (answer : Answer) → HasSampleWritten (IsSummaryOf MayTell number told) out answer
+    → HasSampleWritten (IsSummed MayTell number) out answer
 written-summed MayTell number told out Done wrote = record { text = wrote.text; summary = (told, wrote.summary); taken = wrote.taken }
 written-summed MayTell number told out OutOfMemory wrote = wrote
 written-summed MayTell number told out Usage wrote = wrote
@@ -61,7 +63,8 @@ module _ (out : Stream) (number : ℕ) where
   is-due (TooLong file length) why wrote refused = absurd why
 
   none-broken : (line : List ℕ) → CanBeDesigned (sample_model number) sample_plan → TellsSampleRule number line → ⊥
-  none-broken line can = ⊎_elim (λ (told : TellsRule (sample_model number) line). can.accepted.kept told.fault told.paths told.broken) (λ (told : TellsPlanRule (sample_model number) sample_plan line). can.kept line told)
+  none-broken line can = ⊎_elim (λ (told : TellsRule (sample_model number) line). can.accepted.kept told.fault
+      told.paths told.broken) (λ (told : TellsPlanRule (sample_model number) sample_plan line). can.kept line told)
 
   is-complete : (answer : Answer) → HasSampleCause number answer → HasSampleWritten (IsSummed IsTold number) out answer → IsCompleteSample out number (status_of answer)
   is-complete Done why wrote can writes = (0, omega arith, refl)
@@ -98,7 +101,8 @@ no-bad-plan number line cause fault good is why =
 -- ---- a simulation of a sample's own stimulus
 
 -- where a line of it is bad, it doesn't fit the columns of the model's diagram
-pub unfit : (number line : ℕ) (cause : TableCause) (diagram : Diagram) (own : List ℕ) (fault : TableFault) → IsModelOf (sample_model number) diagram → own ≡ sample_stimulus number → fault ≡ Bad line cause
+pub unfit : (number line : ℕ) (cause : TableCause) (diagram : Diagram) (own : List ℕ) (fault : TableFault)
+    → IsModelOf (sample_model number) diagram → own ≡ sample_stimulus number → fault ≡ Bad line cause
     → IsStimulusFault diagram own fault → CanBeSimulated (sample_model number) (sample_stimulus number) → ⊥
 unfit number line cause diagram own fault accepted same is why can =
     let bad : fault_in diagram own ≡ Some (Bad line cause) = subst (IsStimulusFault diagram own) is why in

@@ -24,7 +24,8 @@ said-more told before now f0 f1 f2 piece more took later said =
     }
 
 -- a proper prefix, after a fault
-pub said-cut : (told now : Option (List ℕ)) (f0 f1 f2 : ℕ) (bytes : List ℕ) → f0 ≤ f1 → Rose f1 f2 → TookProperPrefix told now bytes → Said (record { before = told; now = now; failed = Rose f0 f2 }) bytes
+pub said-cut : (told now : Option (List ℕ)) (f0 f1 f2 : ℕ) (bytes : List ℕ) → f0 ≤ f1 → Rose f1 f2
+    → TookProperPrefix told now bytes → Said (record { before = told; now = now; failed = Rose f0 f2 }) bytes
 said-cut told now f0 f1 f2 bytes later rose part = record { prefix = (part.0, part.1.1); whole = λ calm. absurd (calm (omega (arith, rose, later))) }
 
 -- a name among those of a loop, between those before it and what follows
@@ -34,8 +35,12 @@ names-split [] k name below is = absurd (omega (arith, below))
 names-split (x ∷ names) zero name below is =
     (names_end names, ap (λ (n : List ℕ). ((32 ∷ n) ++ flat_map (λ name. 32 ∷ name) names) ++ codes "\n") (sym is) ∙ append_assoc (32 ∷ name) (flat_map (λ name. 32 ∷ name) names) (codes "\n"))
 names-split (x ∷ names) (suc k) name below is =
-    let more = names-split names k name (omega (arith, below)) is in
-    (more.0, append_assoc (32 ∷ x) (flat_map (λ name. 32 ∷ name) names) (codes "\n") ∙ ap (λ bytes. (32 ∷ x) ++ bytes) more.1 ∙ sym (append_assoc (32 ∷ x) (flat_map (λ name. 32 ∷ name) (take k names)) ((32 ∷ name) ++ more.0)))
+    let more = names-split names k name (omega (arith, below)) is in (
+      more.0,
+      append_assoc (32 ∷ x) (flat_map (λ name. 32 ∷ name) names) (codes "\n")
+          ∙ ap (λ bytes. (32 ∷ x) ++ bytes) more.1
+          ∙ sym (append_assoc (32 ∷ x) (flat_map (λ name. 32 ∷ name) (take k names)) ((32 ∷ name) ++ more.0)),
+    )
 
 -- a part of a text, between those before it and what follows
 pub parts-split : (parts : List (Vec ℕ Global)) (k : ℕ) (part : Vec ℕ Global) → k < length parts → part ≡ get_or parts k part

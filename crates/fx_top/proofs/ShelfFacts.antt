@@ -27,7 +27,10 @@ untroubled file (Some (Some own)) bytes fetched later =
     let is : Some own ≡ Some bytes = fetched.held (Some own) refl in
     let same : own ≡ bytes = cc is in
     let within : length own ≤ file_limit = subst (λ (text : List ℕ). length text ≤ file_limit) (sym same) fetched.within in
-    let short : nat_lt file_limit (length own) ≡ false = false_from_ne_true (nat_lt file_limit (length own)) (λ e. let above : file_limit < length own = ltb-true file_limit (length own) e in absurd (omega arith)) in
+    let short : nat_lt file_limit (length own) ≡ false =
+    false_from_ne_true (nat_lt file_limit (length own))
+    (λ e. let above : file_limit < length own =
+    ltb-true file_limit (length own) e in absurd (omega arith)) in
     simp short
 
 pub no-trouble : (held : List ℕ → Told) (names : List (List ℕ)) → All (λ file. (bytes : List ℕ) × Fetched (held file) file_limit bytes) names → first_trouble held names ≡ None

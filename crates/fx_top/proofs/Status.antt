@@ -13,7 +13,8 @@ use Rattle.fx_top.specs.Answer.{status_of}
 use Rattle.fx_top.specs.Call.{Files, Stream, Trouble, Absent, Overlong, first_trouble}
 use Rattle.fx_top.specs.Cause.{AreFetched, HasNoTree, HasBrokenRule, HasBrokenPlan, HasBrokenPorts, HasBadLine, HasNoVerilog, BreaksCondition}
 use Rattle.fx_top.specs.Caused.{HasCause, HasWritten, IsCarriedOut}
-use Rattle.fx_top.specs.Command.{Asked, Command, PlanWord, Generate, Replay, Simulate, Explore, Check, Stream as StreamOf, OfFiles, asked_of, model_of, verilog_of, plan_of, table_of, first_of, files_of}
+use Rattle.fx_top.specs.Command.{Asked, Command, PlanWord, Generate, Replay, Simulate, Explore, Check, Stream as StreamOf, OfFiles, asked_of, model_of, verilog_of, plan_of, table_of, first_of}
+use Rattle.fx_top.specs.Command.{files_of}
 use Rattle.cmd_design.specs.Design.{IsBadPlan, TellsPlanRule}
 use Rattle.cmd_model.specs.Model.{IsNoText, IsModelOf, IsBrokenModel, IsWithoutDiagram}
 use Rattle.cmd_generate.specs.Generated.{IsWithoutDesign}
@@ -23,12 +24,16 @@ use Rattle.cmd_replay.specs.Replayed.{HasFault, IsNoVerilog, IsSoundText, fault_
 use Rattle.cmd_simulate.specs.Simulating.{fault_in}
 use Rattle.cmd_generate.specs.Streamed.{IsWithoutStream}
 use Rattle.cmd_replay.proofs.NoResponse.{sound-first}
-use Rattle.fx_top.proofs.Commands.{IsFit, IsGood, accepted-fit, bad-fit, first-model, first-verilog, fit-kept, fit-sound, fit-tree, good-diagram, good-sound, good-tree, model-alone, model-good, own-first, table-good}
-use Rattle.fx_top.proofs.ShelfFacts.{HasDesign, check-design, design-good, design-planned, design-told, fetched-told, lines-kept, no-trouble, none-broken, reads-plan, rules-kept, stream-design, told-is, verilog-design}
+use Rattle.fx_top.proofs.Commands.{IsFit, IsGood, accepted-fit, bad-fit, first-model, first-verilog, fit-kept, fit-sound, fit-tree, good-diagram, good-sound, good-tree, model-alone, model-good}
+use Rattle.fx_top.proofs.Commands.{own-first, table-good}
+use Rattle.fx_top.proofs.ShelfFacts.{HasDesign, check-design, design-good, design-planned, design-told, fetched-told, lines-kept, no-trouble, none-broken, reads-plan, rules-kept, stream-design}
+use Rattle.fx_top.proofs.ShelfFacts.{told-is, verilog-design}
 use Rattle.fx_top.proofs.Unsteady.{designable, ports-good, ports-kept, ports-model, ports-planned, unstreamed}
 
 -- what is carried out of the words is what they ask for
-pub carried : (files : Files) (out : Stream) (words : List (List ℕ)) (answer : Answer) (asked : Asked) → IsCarriedOut files out (asked_of words) answer → asked_of words ≡ Some asked → IsCarriedOut files out (Some asked) answer
+pub carried : (files : Files) (out : Stream) (words : List (List ℕ)) (answer : Answer) (asked : Asked)
+    → IsCarriedOut files out (asked_of words) answer → asked_of words ≡ Some asked
+    → IsCarriedOut files out (Some asked) answer
 carried files out words answer asked why shape = subst (λ (named : Option Asked). IsCarriedOut files out named answer) shape why
 
 module _ (files : Files) (out : Stream) (unique : (bytes : List ℕ) (one other : Tree) → Stands bytes one → Stands bytes other → one ≡ other)
@@ -111,7 +116,9 @@ module _ (files : Files) (out : Stream) (unique : (bytes : List ℕ) (one other 
   -- ---- a stimulus
 
   -- a bad line, by what is told of the first file, excludes an output
-  written-bad : (command : Command) (text bytes stimulus numbers : List ℕ) → IsOutput command files.held text → table_of command ≡ Some stimulus → Tells files (first_of command) bytes → Tells files stimulus numbers → IsBadFor command bytes numbers → ⊥
+  written-bad : (command : Command) (text bytes stimulus numbers : List ℕ) → IsOutput command files.held text
+      → table_of command ≡ Some stimulus → Tells files (first_of command) bytes → Tells files stimulus numbers
+      → IsBadFor command bytes numbers → ⊥
   written-bad (Generate model plan) text bytes stimulus numbers output is tells told bad = design-planned files model plan (verilog-design output) bytes tells stimulus numbers is told bad
   written-bad (Replay verilog rows) text bytes stimulus numbers output is tells told bad =
       let same : stimulus ≡ rows = sym (cc is) in
@@ -146,7 +153,9 @@ module _ (files : Files) (out : Stream) (unique : (bytes : List ℕ) (one other 
   output-design (Check model word) own plan output is = let same : word ≡ plan = cc is in subst (λ (w : PlanWord). HasDesign files.held model w) same (check-design output)
   output-design (StreamOf model word) own plan output is = let same : word ≡ plan = cc is in subst (λ (w : PlanWord). HasDesign files.held model w) same (stream-design output)
 
-  undesigned : (command : Command) (own bytes text : List ℕ) (plan : PlanWord) → IsOutput command files.held own → plan_of command ≡ Some plan → Tells files (first_of command) bytes → TellsPlan files plan text → IsWithoutDesign bytes text → ⊥
+  undesigned : (command : Command) (own bytes text : List ℕ) (plan : PlanWord) → IsOutput command files.held own
+      → plan_of command ≡ Some plan → Tells files (first_of command) bytes → TellsPlan files plan text
+      → IsWithoutDesign bytes text → ⊥
   undesigned command own bytes text plan output is tells told refused = design-told files (first_of command) plan (output-design command own plan output is) bytes tells text told refused
 
   -- where no line of it is bad, none is told
@@ -155,7 +164,9 @@ module _ (files : Files) (out : Stream) (unique : (bytes : List ℕ) (one other 
   plan-lines command plan bytes text is tells told good = lines-kept files command plan (reads-plan command plan is) bytes text tells told good
 
   -- a text that is no plan breaks no rule
-  plan-none : (command : Command) (file bytes numbers : List ℕ) → table_of command ≡ Some file → Tells files file numbers → IsBadFor command bytes numbers → (line : List ℕ) → HasBrokenPlan files command line → ⊥
+  plan-none : (command : Command) (file bytes numbers : List ℕ) → table_of command ≡ Some file
+      → Tells files file numbers → IsBadFor command bytes numbers → (line : List ℕ)
+      → HasBrokenPlan files command line → ⊥
   plan-none command file bytes numbers is told bad line why = none-broken files command why.plan (reads-plan command why.plan why.is_plan) file bytes numbers is told bad line why
 
   -- where a command can be done its plan breaks none
@@ -191,7 +202,8 @@ module _ (files : Files) (out : Stream) (unique : (bytes : List ℕ) (one other 
   by-answer own command none not_mdl bad rule no_verilog fault plan ports (TooLong file length) why wrote = (3, omega arith, refl)
 
   module _ (command : Command) where
-    read_fault-due : (file : List ℕ) → first_trouble files.held (files_of command) ≡ Some (Absent file) → files.steady → (answer : Answer) → HasCause files command answer → Yields 3 [] (status_of answer)
+    read_fault-due : (file : List ℕ) → first_trouble files.held (files_of command) ≡ Some (Absent file)
+        → files.steady → (answer : Answer) → HasCause files command answer → Yields 3 [] (status_of answer)
     read_fault-due file is steady Done why = absurd (fetched-whole command (Absent file) why is)
     read_fault-due file is steady OutOfMemory why = (1, omega arith, refl)
     read_fault-due file is steady Usage why = absurd why
@@ -204,7 +216,9 @@ module _ (files : Files) (out : Stream) (unique : (bytes : List ℕ) (one other 
     read_fault-due file is steady (Broken answered fault) why = absurd (fetched-whole command (Absent file) why.0 is)
     read_fault-due file is steady (TooLong answered reported) why = let first = why.first steady in absurd (cc (first, is))
 
-    too_long-due : (file : List ℕ) (length : ℕ) → first_trouble files.held (files_of command) ≡ Some (Overlong file length) → files.steady → (answer : Answer) → HasCause files command answer → Yields 9 [] (status_of answer)
+    too_long-due : (file : List ℕ) (length : ℕ)
+        → first_trouble files.held (files_of command) ≡ Some (Overlong file length) → files.steady
+        → (answer : Answer) → HasCause files command answer → Yields 9 [] (status_of answer)
     too_long-due file length is steady Done why = absurd (fetched-whole command (Overlong file length) why is)
     too_long-due file length is steady OutOfMemory why = (1, omega arith, refl)
     too_long-due file length is steady Usage why = absurd why
@@ -225,7 +239,9 @@ module _ (files : Files) (out : Stream) (unique : (bytes : List ℕ) (one other 
       no-bad : (own : ℕ) (file : List ℕ) (line : ℕ) (cause : TableCause) → HasBadLine files command file line cause → Yields own (3 ∷ 9 ∷ []) 6
       no-bad own file line cause why = absurd (spoilt (bad-good command bytes file line cause tells why))
 
-    syntax-due : (model bytes : List ℕ) → model_of command ≡ Some model → Tells files (first_of command) bytes → IsNoText bytes → (answer : Answer) → HasCause files command answer → HasWritten files out command answer → Yields 5 (3 ∷ 9 ∷ []) (status_of answer)
+    syntax-due : (model bytes : List ℕ) → model_of command ≡ Some model → Tells files (first_of command) bytes
+        → IsNoText bytes → (answer : Answer) → HasCause files command answer → HasWritten files out command answer
+        → Yields 5 (3 ∷ 9 ∷ []) (status_of answer)
     syntax-due model bytes is tells none =
         let spoilt : IsGood command bytes → ⊥ = λ good. (let tree = good-tree command model bytes is good in none tree.0 tree.1) in
         by-answer 5 command (no-output bytes tells spoilt) (λ file line why. own-first 5) (no-bad bytes tells spoilt 5)
@@ -244,7 +260,9 @@ module _ (files : Files) (out : Stream) (unique : (bytes : List ℕ) (one other 
         (λ line why. own-first 7)
         (λ line why. own-first 7)
 
-    broken_plan-due : (model bytes text : List ℕ) (plan : PlanWord) → model_of command ≡ Some model → plan_of command ≡ Some plan → Tells files (first_of command) bytes → TellsPlan files plan text → IsWithoutDesign bytes text
+    broken_plan-due : (model bytes text : List ℕ) (plan : PlanWord) → model_of command ≡ Some model
+        → plan_of command ≡ Some plan → Tells files (first_of command) bytes → TellsPlan files plan text
+        → IsWithoutDesign bytes text
         → (answer : Answer) → HasCause files command answer → HasWritten files out command answer → Yields 7 (3 ∷ 9 ∷ []) (status_of answer)
     broken_plan-due model bytes text plan is of tells told refused =
         let fit = accepted-fit command model bytes is refused.accepted in
@@ -261,13 +279,18 @@ module _ (files : Files) (out : Stream) (unique : (bytes : List ℕ) (one other 
         let is = ap model_of same in
         let fit = accepted-fit command model bytes is refused.accepted in
         by-answer 7 command (λ own output. unstreamed files command own bytes text model plan same output tells told refused)
-        (λ file line why. absurd (not-none command bytes tells fit file line why)) (λ file line cause why. absurd (plan-lines command plan bytes text (ap plan_of same) tells told refused.good file line cause why))
+        (λ file line why. absurd (not-none command bytes tells fit file line why))
+        (λ file line cause why. absurd
+        (plan-lines command plan bytes text (ap plan_of same) tells told refused.good file line cause why))
         (λ line why. own-first 7)
         (λ file line why. absurd (model-alone command model file is why.is)) (λ file condition why. absurd (model-alone command model file is why.is))
         (λ line why. own-first 7)
         (λ line why. own-first 7)
 
-    not_verilog-due : (verilog bytes : List ℕ) → verilog_of command ≡ Some verilog → Tells files (first_of command) bytes → IsNoVerilog bytes → (answer : Answer) → HasCause files command answer → HasWritten files out command answer → Yields 8 (3 ∷ 9 ∷ []) (status_of answer)
+    not_verilog-due : (verilog bytes : List ℕ) → verilog_of command ≡ Some verilog
+        → Tells files (first_of command) bytes → IsNoVerilog bytes → (answer : Answer)
+        → HasCause files command answer → HasWritten files out command answer
+        → Yields 8 (3 ∷ 9 ∷ []) (status_of answer)
     not_verilog-due verilog bytes is tells none =
         let spoilt : IsGood command bytes → ⊥ = λ good. (let made = good-sound command verilog bytes is good in none made.0 made.1.spells made.1.few) in
         by-answer 8 command (no-output bytes tells spoilt) (λ file line why. absurd (model-alone command file verilog why.is is)) (no-bad bytes tells spoilt 8)
@@ -276,7 +299,10 @@ module _ (files : Files) (out : Stream) (unique : (bytes : List ℕ) (one other 
         (λ line why. absurd (model-alone command why.file verilog why.is_model is))
         (λ line why. absurd (model-alone command why.model verilog (ports-model files command line why) is))
 
-    broken-due : (verilog bytes : List ℕ) (condition : Fault) → verilog_of command ≡ Some verilog → Tells files (first_of command) bytes → HasFault bytes condition → (answer : Answer) → HasCause files command answer → HasWritten files out command answer → Yields 8 (3 ∷ 9 ∷ []) (status_of answer)
+    broken-due : (verilog bytes : List ℕ) (condition : Fault) → verilog_of command ≡ Some verilog
+        → Tells files (first_of command) bytes → HasFault bytes condition → (answer : Answer)
+        → HasCause files command answer → HasWritten files out command answer
+        → Yields 8 (3 ∷ 9 ∷ []) (status_of answer)
     broken-due verilog bytes condition is tells has =
         let spoilt : IsGood command bytes → ⊥ = λ good. (let made = good-sound command verilog bytes is good in not-sound bytes made.0 condition made.1 has) in
         by-answer 8 command (no-output bytes tells spoilt) (λ file line why. absurd (model-alone command file verilog why.is is)) (no-bad bytes tells spoilt 8)
@@ -361,7 +387,9 @@ module _ (files : Files) (out : Stream) (unique : (bytes : List ℕ) (one other 
   is-complete command CannotWrite why wrote can gives writes = absurd (writes wrote.rise)
   is-complete command (NotMdl file line) why wrote can gives writes = let told = can-bytes command can in absurd (not-none command told.0 told.1.0 told.1.1 file.now line why.1)
   is-complete command (BadTable file line cause) why wrote can gives writes = absurd (stimulus-good command can file.now line cause why.1)
-  is-complete command (BreaksRule line) why wrote can gives writes = let told = can-bytes command can in absurd (⊎_elim (not-rule command told.0 told.1.0 told.1.1 line) (⊎_elim (plan-kept command can line) (λ ports. ports-kept files command line ports can)) why.1)
+  is-complete command (BreaksRule line) why wrote can gives writes = let told = can-bytes command can in
+      absurd (⊎_elim (not-rule command told.0 told.1.0 told.1.1 line)
+      (⊎_elim (plan-kept command can line) (λ ports. ports-kept files command line ports can)) why.1)
   is-complete command (NotVerilog file line) why wrote can gives writes = let told = can-bytes command can in absurd (not-no_verilog command told.0 told.1.0 told.1.1 file.now line why.1)
   is-complete command (Broken file fault) why wrote can gives writes = let told = can-bytes command can in absurd (not-fault command told.0 told.1.0 told.1.1 file.now fault why.1)
   is-complete command (TooLong file length) why wrote can (inl steady) writes = let first = why.first steady.0 in let none = steady.1 in absurd (cc (first, none))

@@ -29,17 +29,25 @@ use Rattle.fx_top.proofs.Refusals.{Blames, done-caused, done-written}
 use Rattle.fx_top.proofs.ShelfFacts.{reads-plan}
 
 -- a text that is made, by how it was put
-pub put-text : (Made : List ℕ → Type 0) (out : Stream) (text : List ℕ) → Made text → (put : Result ⊤ PutFault) → OnOk put (out.now ≡ also_took out.before text) → OnErr put (TookProperPrefix out.before out.now text) → OnErr put out.failed → IsPut Made out put
+pub put-text : (Made : List ℕ → Type 0) (out : Stream) (text : List ℕ) → Made text → (put : Result ⊤ PutFault)
+    → OnOk put (out.now ≡ also_took out.before text) → OnErr put (TookProperPrefix out.before out.now text)
+    → OnErr put out.failed → IsPut Made out put
 put-text Made out text made (Ok whole) all part rise = (text, (made, all))
 put-text Made out text made (Err fault) all part rise = (text, (made, (part, rise)))
 
 -- that of a module
 pub put-module : (IsSo : List ℕ → Type 0) (Refused : DesignFault → Type 0) (out : Stream) (given : Result Module DesignFault) (made : Module) (text : List ℕ) → given ≡ Ok made → IsTextOf made text
-    → (put : Result ⊤ PutFault) → OnOk put (out.now ≡ also_took out.before text) → OnErr put (TookProperPrefix out.before out.now text) → OnErr put out.failed → IsModuleFor IsSo Refused given → IsPut IsSo out put
-put-module IsSo Refused out given made text is own put all part rise so = put-text IsSo out text ((subst (λ (r : Result Module DesignFault). IsModuleFor IsSo Refused r) is so).1 text own) put all part rise
+    → (put : Result ⊤ PutFault) → OnOk put (out.now ≡ also_took out.before text)
+    → OnErr put (TookProperPrefix out.before out.now text) → OnErr put out.failed
+    → IsModuleFor IsSo Refused given → IsPut IsSo out put
+put-module IsSo Refused out given made text is own put all part rise so =
+    put-text IsSo out text ((subst (λ (r : Result Module DesignFault). IsModuleFor IsSo Refused r) is so).1 text
+    own) put all part rise
 
 -- how a known task is done
-pub done-by : (task known : Task) (first second : List ℕ) (out : Stream) (done : Result (Result ⊤ PutFault) Fault) → task ≡ known → IsDone (Makes known first second) (IsFaultOf known first second) out done → IsDone (Makes task first second) (IsFaultOf task first second) out done
+pub done-by : (task known : Task) (first second : List ℕ) (out : Stream) (done : Result (Result ⊤ PutFault) Fault)
+    → task ≡ known → IsDone (Makes known first second) (IsFaultOf known first second) out done
+    → IsDone (Makes task first second) (IsFaultOf task first second) out done
 done-by task known first second out done is why = subst (λ (own : Task). IsDone (Makes own first second) (IsFaultOf own first second) out done) (sym is) why
 
 -- the files that it reads
@@ -52,7 +60,9 @@ files-are task.Check first second = refl
 files-are task.Stream first second = refl
 
 -- its text is the command's
-outputs : (held : List ℕ → Told) (task : Task) (first second bytes text own : List ℕ) → Fetched (held first) file_limit bytes → IsPlanText held (table_word task second) text → Makes task bytes text own → IsOutput (command_of task first second) held own
+outputs : (held : List ℕ → Told) (task : Task) (first second bytes text own : List ℕ)
+    → Fetched (held first) file_limit bytes → IsPlanText held (table_word task second) text
+    → Makes task bytes text own → IsOutput (command_of task first second) held own
 outputs held task.Generate first second bytes text own fetched says made = record { first_bytes = bytes; second_bytes = text; fetched = fetched; says = says; made = made }
 outputs held task.Replay first second bytes text own fetched says made = record { first_bytes = bytes; second_bytes = text; fetched = fetched; says = says; made = made }
 outputs held task.Simulate first second bytes text own fetched says made = record { first_bytes = bytes; second_bytes = text; fetched = fetched; says = says; made = made }
@@ -63,7 +73,9 @@ outputs held task.Stream first second bytes text own fetched says made = record 
 -- ---- what its faults say
 
 model-blames : (files : Files) (command : Command) (second bytes : List ℕ) → model_of command ≡ Some (first_of command) → IsFetched files (first_of command) bytes
-    → (Rule : List ℕ → Type 0) (Bad : ℕ → TableCause → Type 0) → ((line : List ℕ) → Rule line → BreaksSomeRule files command line) → ((line : ℕ) (cause : TableCause) → Bad line cause → HasBadLine files command second line cause)
+    → (Rule : List ℕ → Type 0) (Bad : ℕ → TableCause → Type 0)
+    → ((line : List ℕ) → Rule line → BreaksSomeRule files command line)
+    → ((line : ℕ) (cause : TableCause) → Bad line cause → HasBadLine files command second line cause)
     → (fault : Fault) → OfModel bytes Rule Bad fault → Blames files command (first_of command) second fault
 model-blames files command second bytes is fetched Rule Bad broken bad (NotMdl line) why = record { is = is; bytes = bytes; fetched = fetched; so = why }
 model-blames files command second bytes is fetched Rule Bad broken bad (BreaksRule line) why = broken line why
@@ -72,7 +84,9 @@ model-blames files command second bytes is fetched Rule Bad broken bad (Broken c
 model-blames files command second bytes is fetched Rule Bad broken bad (BadTable line cause) why = bad line cause why
 model-blames files command second bytes is fetched Rule Bad broken bad OutOfMemory why = tt
 
-design-blames : (files : Files) (command : Command) (word bytes text : List ℕ) → plan_of command ≡ Some (plan_word word) → IsFetched files (first_of command) bytes → IsPlanText files.held (plan_word word) text
+design-blames : (files : Files) (command : Command) (word bytes text : List ℕ)
+    → plan_of command ≡ Some (plan_word word) → IsFetched files (first_of command) bytes
+    → IsPlanText files.held (plan_word word) text
     → (fault : Fault) → IsDesignFault bytes text fault → Blames files command (first_of command) word fault
 design-blames files command word bytes text is fetched says =
     let reads = reads-plan command (plan_word word) is in
@@ -108,7 +122,8 @@ blames files task.Stream first second bytes text fetched says =
 
 -- ---- why its answer is due
 
-module _ (files : Files) (out : Stream) (task : Task) (first second : Bor (List ℕ)) (bytes text : List ℕ) (fetched : IsFetched files first.now bytes) (says : IsPlanText files.held (table_word task second.now) text)
+module _ (files : Files) (out : Stream) (task : Task) (first second : Bor (List ℕ)) (bytes text : List ℕ)
+    (fetched : IsFetched files first.now bytes) (says : IsPlanText files.held (table_word task second.now) text)
     (done : Result (Result ⊤ PutFault) Fault) (is : IsDone (Makes task bytes text) (IsFaultOf task bytes text) out done) where
   all-fetched : AreFetched files (command_of task first.now second.now)
   all-fetched =
@@ -116,7 +131,11 @@ module _ (files : Files) (out : Stream) (task : Task) (first second : Bor (List 
       (fetched-planned files.held first.now (table_word task second.now) bytes text fetched says)
 
   pub task-caused : HasCause files (command_of task first.now second.now) (answer_to first second done)
-  task-caused = done-caused files out (command_of task first.now second.now) first second (Makes task bytes text) (IsFaultOf task bytes text) all-fetched (blames files task first.now second.now bytes text fetched says) done is
+  task-caused = done-caused files out (command_of task first.now second.now) first second (Makes task bytes text)
+      (IsFaultOf task bytes text) all-fetched
+      (blames files task first.now second.now bytes text fetched says) done is
 
   pub task-written : HasWritten files out (command_of task first.now second.now) (answer_to first second done)
-  task-written = done-written files out (command_of task first.now second.now) first second (Makes task bytes text) (IsFaultOf task bytes text) (λ own. outputs files.held task first.now second.now bytes text own fetched says) done is
+  task-written = done-written files out (command_of task first.now second.now) first second (Makes task bytes text)
+      (IsFaultOf task bytes text)
+      (λ own. outputs files.held task first.now second.now bytes text own fetched says) done is

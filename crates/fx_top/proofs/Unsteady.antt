@@ -15,7 +15,9 @@ designable can = record { model_bytes = can.model_bytes; plan_bytes = can.plan_b
 
 module _ (files : Files) (command : Command) where
   -- what is written has ports that keep the rule
-  pub unstreamed : (own bytes text model : List ℕ) (plan : PlanWord) → command ≡ StreamOf model plan → IsOutput command files.held own → Tells files (first_of command) bytes → TellsPlan files plan text → IsWithoutStream bytes text → ⊥
+  pub unstreamed : (own bytes text model : List ℕ) (plan : PlanWord) → command ≡ StreamOf model plan
+      → IsOutput command files.held own → Tells files (first_of command) bytes → TellsPlan files plan text
+      → IsWithoutStream bytes text → ⊥
   unfolding stream-design
   unstreamed own bytes text model plan is output tells told refused =
       subst (λ (c : Command). IsOutput c files.held own → Tells files (first_of c) bytes → ⊥) (sym is) of output tells

@@ -1,5 +1,6 @@
 -- The ends of ranges, of terms and of sums.
-use Rattle.std.proofs.Common.{◌≡◌, ℕ, ◌+◌, ◌^◌, ◌<◌, Bool, true, false, not, [], ◌∷◌, ◌++◌, take, drop, length, get_or, ℤ, pos, ◌+ℤ◌, ◌≤ℤ◌, ap, sym, ◌∙◌, arith, refl, take-append-drop, MatchResult, Result, IsErr, Ok, Err, true≢false, subst₂}
+use Rattle.std.proofs.Common.{◌≡◌, ℕ, ◌+◌, ◌^◌, ◌<◌, Bool, true, false, not, [], ◌∷◌, ◌++◌, take, drop, length, get_or, ℤ, pos, ◌+ℤ◌, ◌≤ℤ◌, ap, sym, ◌∙◌, arith, refl, take-append-drop, MatchResult}
+use Rattle.std.proofs.Common.{Result, IsErr, Ok, Err, true≢false, subst₂}
 use Rattle.std.specs.Int.{int_gap}
 use Rattle.std.proofs.lemmas.Int.{ints}
 use Rattle.std.proofs.lemmas.List.{take_more}
@@ -27,7 +28,9 @@ least_sign frac (s, t) = scaled-at_most (least_end s t) (2 ^ int_gap (frac_of t)
 pub greatest_sign : (frac : ℤ) (term : Bool × FxType) → pos 0 ≤ℤ greatest_term frac term
 greatest_sign frac (s, t) = scaled-at_least (greatest_end s t) (2 ^ int_gap (frac_of t) frac) (greatest_end_sign s t)
 
-pub term_bounds : (frac : ℤ) (s : Bool) (t : FxType) (v : ℤ) → InRange t v → (least_term frac (s, t) ≤ℤ negated_if s (aligned frac t v)) × (negated_if s (aligned frac t v) ≤ℤ greatest_term frac (s, t))
+pub term_bounds : (frac : ℤ) (s : Bool) (t : FxType) (v : ℤ) → InRange t v
+    → (least_term frac (s, t) ≤ℤ negated_if s (aligned frac t v))
+    × (negated_if s (aligned frac t v) ≤ℤ greatest_term frac (s, t))
 term_bounds frac true t v h =
     let d = 2 ^ int_gap (frac_of t) frac in
     (omega (arith, ints, scaled-mono v (highest_of t) d h.high, scaled-neg (highest_of t) d), omega (arith, ints, scaled-mono (lowest_of t) v d h.low, scaled-neg (lowest_of t) d))

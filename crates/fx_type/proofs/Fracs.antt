@@ -12,7 +12,9 @@ use Rattle.fx_type.specs.FullType.{Terms, IsGreatestFrac}
 use Rattle.std.specs.Prelude.{zip}
 
 module _ (terms : Terms) (i : ℕ) (d : Bool × FxType) (inside : i < length terms) where
-  pub bound_more : (old f new : ℤ) → All (λ term. frac_of term.1 ≤ℤ old) (take i terms) → f ≡ frac_of (get_or terms i d).1 → old ≤ℤ new → f ≤ℤ new → All (λ term. frac_of term.1 ≤ℤ new) (take (i + 1) terms)
+  pub bound_more : (old f new : ℤ) → All (λ term. frac_of term.1 ≤ℤ old) (take i terms)
+      → f ≡ frac_of (get_or terms i d).1 → old ≤ℤ new → f ≤ℤ new
+      → All (λ term. frac_of term.1 ≤ℤ new) (take (i + 1) terms)
   bound_more old f new all e p q =
       All-more (λ term. frac_of term.1 ≤ℤ new) terms i d inside
       (All-weaker (λ (term : Bool × FxType). frac_of term.1 ≤ℤ old) (λ term. frac_of term.1 ≤ℤ new) (λ term h. omega (arith, ints, h, p)) (take i terms) all)
@@ -42,7 +44,9 @@ greatest_bounds terms frac valid greatest =
     (omega (arith, ints, bounds.0, reached), omega (arith, ints, bounds.1, reached))
 
 -- the greatest frac bounds each type's
-pub bound_at : (frac : ℤ) (signs : List Bool) (types : List FxType) → All (λ (term : Bool × FxType). frac_of term.1 ≤ℤ frac) (zip signs types) → length signs ≡ length types → (k : ℕ) (d : FxType) → k < length types → frac_of (get_or types k d) ≤ℤ frac
+pub bound_at : (frac : ℤ) (signs : List Bool) (types : List FxType)
+    → All (λ (term : Bool × FxType). frac_of term.1 ≤ℤ frac) (zip signs types) → length signs ≡ length types
+    → (k : ℕ) (d : FxType) → k < length types → frac_of (get_or types k d) ≤ℤ frac
 bound_at frac [] [] bound same k d h = absurd (omega arith)
 bound_at frac [] (t ∷ types) bound same k d h = absurd (omega arith)
 bound_at frac (s ∷ signs) [] bound same k d h = absurd (omega arith)

@@ -1,5 +1,6 @@
 -- The full types of sums and unions.
-use Rattle.std.proofs.Common.{◌≡◌, ◌≢◌, ℕ, ◌+◌, ◌-◌, ◌^◌, ◌<◌, ◌≤◌, min, Bool, true, false, ◌||◌, ℤ, pos, ◌+ℤ◌, ◌*ℤ◌, ◌≤ℤ◌, ◌<ℤ◌, ap, sym, ◌∙◌, refl, subst, arith, pow_pos, mul-pos, true≢false, Result, Ok, Err, OnErr}
+use Rattle.std.proofs.Common.{◌≡◌, ◌≢◌, ℕ, ◌+◌, ◌-◌, ◌^◌, ◌<◌, ◌≤◌, min, Bool, true, false, ◌||◌, ℤ, pos, ◌+ℤ◌, ◌*ℤ◌, ◌≤ℤ◌, ◌<ℤ◌, ap, sym, ◌∙◌, refl, subst, arith, pow_pos, mul-pos, true≢false}
+use Rattle.std.proofs.Common.{Result, Ok, Err, OnErr}
 use Rattle.std.specs.Int.{int_max, int_min, int_gap}
 use Rattle.std.proofs.lemmas.Int.{ints, clamps}
 use Rattle.math_num.specs.Word.{IsWord}
@@ -30,7 +31,9 @@ no_full_sum terms frac g n t full =
     subst (λ (f : ℤ). ¬ FitSpan (sum_of (least_term f) terms) (sum_of (greatest_term f) terms)) (sym e) n in
     m (InRange-fits t _ full.valid (full.holds _ (least_possible (frac_of t) terms)), InRange-fits t _ full.valid (full.holds _ (greatest_possible (frac_of t) terms)))
 
-module _ (terms : Terms) (span : Span) (type : FxType) (g : IsGreatestFrac terms (frac_of type)) (ends : IsSpan (sum_of (least_term (frac_of type)) terms) (sum_of (greatest_term (frac_of type)) terms) span) (n : IsNarrowest span.low span.high (frac_of type) type) where
+module _ (terms : Terms) (span : Span) (type : FxType) (g : IsGreatestFrac terms (frac_of type))
+    (ends : IsSpan (sum_of (least_term (frac_of type)) terms) (sum_of (greatest_term (frac_of type)) terms) span)
+    (n : IsNarrowest span.low span.high (frac_of type) type) where
   narrow_sum : (other : FxType) → IsType other → IsNumber other → frac_of other ≡ frac_of type → HoldsSums terms other → width_of type ≤ width_of other
   narrow_sum other valid number e holds =
       let l = subst (λ (f : ℤ). IsPossibleSum f terms (sum_of (least_term (frac_of type)) terms)) (sym e) (least_possible (frac_of type) terms) in
@@ -54,7 +57,9 @@ module _ (terms : Terms) (span : Span) (type : FxType) (g : IsGreatestFrac terms
     );
   }
 
-pub full_sum_is : (terms : Terms) (frac : ℤ) (span : Span) (type : FxType) → IsGreatestFrac terms frac → IsSpan (sum_of (least_term frac) terms) (sum_of (greatest_term frac) terms) span → IsNarrowest span.low span.high frac type → IsFullSum terms type
+pub full_sum_is : (terms : Terms) (frac : ℤ) (span : Span) (type : FxType) → IsGreatestFrac terms frac
+    → IsSpan (sum_of (least_term frac) terms) (sum_of (greatest_term frac) terms) span
+    → IsNarrowest span.low span.high frac type → IsFullSum terms type
 full_sum_is terms frac span type g ends n =
     let e = sym n.frac in
     full_sum_here terms span type
@@ -69,7 +74,9 @@ word_most true width valid = valid.1
 word_most false width valid = omega (arith, valid.1)
 
 -- where a full product is valid, a type made of its width, cut at 255, and its frac is
-pub product_valid : (a b type : FxType) (signed : Bool) (width : ℕ) (frac : ℤ) → signed ≡ (is_signed a || is_signed b) → width ≡ min (width_of a + width_of b) 255 → frac ≡ frac_of a +ℤ frac_of b → IsFullProduct a b type
+pub product_valid : (a b type : FxType) (signed : Bool) (width : ℕ) (frac : ℤ)
+    → signed ≡ (is_signed a || is_signed b) → width ≡ min (width_of a + width_of b) 255
+    → frac ≡ frac_of a +ℤ frac_of b → IsFullProduct a b type
     → IsType (Num signed width frac)
 product_valid a b (Num s w f) signed width frac sign size point full =
     let most = word_most s w full.valid.0 in
@@ -86,7 +93,8 @@ no_left a b d n t u =
     let both = u.different d in
     n (subst (λ (f : ℤ). FitSpan (least_term f (false, a)) (greatest_term f (false, a))) both.frac (holds_ends t a both.valid both.left))
 
-pub no_right : (a b : FxType) → a ≢ b → ¬ FitSpan (least_term (int_max (frac_of a) (frac_of b)) (false, b)) (greatest_term (int_max (frac_of a) (frac_of b)) (false, b)) → (t : FxType) → ¬ IsUnion a b t
+pub no_right : (a b : FxType) → a ≢ b → ¬ FitSpan (least_term (int_max (frac_of a) (frac_of b)) (false, b))
+    (greatest_term (int_max (frac_of a) (frac_of b)) (false, b)) → (t : FxType) → ¬ IsUnion a b t
 no_right a b d n t u =
     let both = u.different d in
     n (subst (λ (f : ℤ). FitSpan (least_term f (false, b)) (greatest_term f (false, b))) both.frac (holds_ends t b both.valid both.right))
@@ -108,7 +116,9 @@ unsigned_zero (Num true w f) d e = absurd (true≢false e)
 unsigned_zero (Num false w f) d e = omega (arith, ints)
 unsigned_zero Logical d e = omega (arith, ints)
 
-sign_of : (low la lb : ℤ) (s sa sb : Bool) → low ≡ int_min la lb → (s ≡ false → pos 0 ≤ℤ low) → (pos 0 ≤ℤ low → s ≡ false) → (sa ≡ true → la <ℤ pos 0) → (sa ≡ false → la ≡ pos 0) → (sb ≡ true → lb <ℤ pos 0) → (sb ≡ false → lb ≡ pos 0) → s ≡ (sa || sb)
+sign_of : (low la lb : ℤ) (s sa sb : Bool) → low ≡ int_min la lb → (s ≡ false → pos 0 ≤ℤ low)
+    → (pos 0 ≤ℤ low → s ≡ false) → (sa ≡ true → la <ℤ pos 0) → (sa ≡ false → la ≡ pos 0) → (sb ≡ true → lb <ℤ pos 0)
+    → (sb ≡ false → lb ≡ pos 0) → s ≡ (sa || sb)
 sign_of low la lb true true sb m p q ta fa tb fb = refl
 sign_of low la lb true false true m p q ta fa tb fb = refl
 sign_of low la lb true false false m p q ta fa tb fb = q (omega (arith, ints, clamps, fa refl, fb refl))

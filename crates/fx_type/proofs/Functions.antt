@@ -1,5 +1,6 @@
 -- The functions of full types give what the relations allow.
-use Rattle.std.proofs.Common.{◌≡◌, ◌≢◌, ℕ, suc, ◌+◌, ◌-◌, ◌≤◌, Bool, true, false, cond, ◌&&◌, ◌||◌, [], ◌∷◌, Option, Some, None, ℤ, pos, negsuc, ◌+ℤ◌, ◌≤ℤ◌, ◌<ℤ◌, All, Any, inl, inr, ap, sym, ◌∙◌, refl, subst, arith, pow_pos, true≢false}
+use Rattle.std.proofs.Common.{◌≡◌, ◌≢◌, ℕ, suc, ◌+◌, ◌-◌, ◌≤◌, Bool, true, false, cond, ◌&&◌, ◌||◌, [], ◌∷◌, Option, Some, None, ℤ, pos, negsuc, ◌+ℤ◌, ◌≤ℤ◌, ◌<ℤ◌, All, Any, inl, inr, ap, sym, ◌∙◌}
+use Rattle.std.proofs.Common.{refl, subst, arith, pow_pos, true≢false}
 use Rattle.std.specs.Prelude.{◌↔◌, int_lt, int_le}
 use Rattle.std.specs.Bool.{Decides}
 use Rattle.std.specs.Int.{int_max, int_min}
@@ -96,7 +97,10 @@ module _ (least greatest frac : ℤ) (low : least ≤ℤ pos 0) (high : pos 0 �
   by_width s type is None e m = absurd (Some≢None _ (sym m))
   by_width s type is (Some w) e m = subst (IsNarrowest least greatest frac) (same_Some (Num s w frac) type m) (is w e)
 
-  by_sign : (type : FxType) (s : Bool) → int_lt least (pos 0) ≡ s → option_map (λ width. Num s width frac) (find (holds_ends least greatest s) (range_with_len (cond s 2 1) 127)) ≡ Some type → IsNarrowest least greatest frac type
+  by_sign : (type : FxType) (s : Bool) → int_lt least (pos 0) ≡ s
+      → option_map (λ width. Num s width frac)
+      (find (holds_ends least greatest s) (range_with_len (cond s 2 1) 127)) ≡ Some type
+      → IsNarrowest least greatest frac type
   by_sign type true e m = by_width true type (λ w k. signed_found w ((Decides-int_lt least (pos 0)).0 e) (found (holds_ends least greatest true) 2 127 w k)) _ refl m
   by_sign type false e m = by_width false type (λ w k. unsigned_found w (omega (arith, ints)) (found (holds_ends least greatest false) 1 127 w k)) _ refl m
 
@@ -178,7 +182,9 @@ full_sum_none ((s, t) ∷ terms) valid e type full =
     let same : frac_of type ≡ f = greatest_only all (frac_of type) f full.frac g in
     let l = subst (λ (z : ℤ). InRange type (sum_of (least_term z) all)) same (full.holds _ (least_possible (frac_of type) all)) in
     let h = subst (λ (z : ℤ). InRange type (sum_of (greatest_term z) all)) same (full.holds _ (greatest_possible (frac_of type) all)) in
-    narrowest_none (sum_of (least_term f) all) (sum_of (greatest_term f) all) f (sum_of-at_most (least_term f) (least_sign f) all) (sum_of-at_least (greatest_term f) (greatest_sign f) all) b.0 b.1 e type full.valid full.number l h
+    narrowest_none (sum_of (least_term f) all) (sum_of (greatest_term f) all) f
+    (sum_of-at_most (least_term f) (least_sign f) all)
+    (sum_of-at_least (greatest_term f) (greatest_sign f) all) b.0 b.1 e type full.valid full.number l h
 
 full_sum_only : (terms : Terms) (a b : FxType) → IsFullSum terms a → IsFullSum terms b → a ≡ b
 full_sum_only terms a b p q =

@@ -39,7 +39,8 @@ grown lat new to label moved more k = ⊎_elim
     (cases_eq to k)
 
 pulled_new : (arcs : List Arc) (lat new : List ℕ) (time : ℕ → ℕ) (now number : ℕ) (arc : Arc) → slice_get arcs number ≡ Some arc → arc.counts ≡ true
-    → IsMoved (latency_at lat) (latency_at new) arc.to (label_of lat arc) → latency_at lat arc.to < label_of lat arc → ((k : ℕ) → time k < now) → IsPulled arcs new (timed time arc.to now) arc.to number
+    → IsMoved (latency_at lat) (latency_at new) arc.to (label_of lat arc) → latency_at lat arc.to < label_of lat arc
+    → ((k : ℕ) → time k < now) → IsPulled arcs new (timed time arc.to now) arc.to number
 pulled_new arcs lat new time now number arc at counts moved more past =
     let g = given lat arc more in
     let sum = g.sum in
@@ -62,7 +63,9 @@ pulled_new arcs lat new time now number arc at counts moved more past =
       above = omega (arith, same, more);
     }
 
-pulled_old : (arcs : List Arc) (lat new : List ℕ) (time : ℕ → ℕ) (now to label block number : ℕ) → IsMoved (latency_at lat) (latency_at new) to label → latency_at lat to < label → ((k : ℕ) → time k < now) → (to ≡ block → ⊥)
+pulled_old : (arcs : List Arc) (lat new : List ℕ) (time : ℕ → ℕ) (now to label block number : ℕ)
+    → IsMoved (latency_at lat) (latency_at new) to label → latency_at lat to < label → ((k : ℕ) → time k < now)
+    → (to ≡ block → ⊥)
     → IsPulled arcs lat time block number → IsPulled arcs new (timed time to now) block number
 pulled_old arcs lat new time now to label block number moved more past differs pulled =
     let here = moved.other block differs in
@@ -78,7 +81,9 @@ pulled_old arcs lat new time now to label block number moved more past differs p
       ends = pulled.ends;
       weak = omega (arith, here, weak, rises);
       strict = λ late. ⊎_elim
-          (λ (e : to ≡ pulled.arc.from). let s = moved.same pulled.arc.from e in let old : latency_at lat to ≡ latency_at lat pulled.arc.from = ap (latency_at lat) e in omega (arith, here, weak, s, old, more))
+          (λ (e : to ≡ pulled.arc.from). let s = moved.same pulled.arc.from e in
+          let old : latency_at lat to ≡ latency_at lat pulled.arc.from =
+          ap (latency_at lat) e in omega (arith, here, weak, s, old, more))
           (λ (apart : to ≡ pulled.arc.from → ⊥).
           let o = moved.other pulled.arc.from apart in
           let t = (timed_moves time to now).other pulled.arc.from apart in
@@ -89,8 +94,10 @@ pulled_old arcs lat new time now to label block number moved more past differs p
       above = omega (arith, here, above);
     }
 
-labels_taken : (arcs : List Arc) (lat new : List ℕ) (tight : List (Option ℕ)) (number : ℕ) (arc : Arc) → slice_get arcs number ≡ Some arc → arc.counts ≡ true → arc.to < length lat → length new ≡ length lat
-    → IsMoved (latency_at lat) (latency_at new) arc.to (label_of lat arc) → latency_at lat arc.to < label_of lat arc → AreLabels arcs lat tight → AreLabels arcs new (slice_set tight arc.to (Some number))
+labels_taken : (arcs : List Arc) (lat new : List ℕ) (tight : List (Option ℕ)) (number : ℕ) (arc : Arc)
+    → slice_get arcs number ≡ Some arc → arc.counts ≡ true → arc.to < length lat → length new ≡ length lat
+    → IsMoved (latency_at lat) (latency_at new) arc.to (label_of lat arc) → latency_at lat arc.to < label_of lat arc
+    → AreLabels arcs lat tight → AreLabels arcs new (slice_set tight arc.to (Some number))
 labels_taken arcs lat new tight number arc at counts inside long moved more labels =
     let size = labels.size in
     let gets = set_gets tight arc.to (Some number) (omega (arith, size, inside)) in
@@ -111,7 +118,9 @@ labels_taken arcs lat new tight number arc at counts inside long moved more labe
           let same : number ≡ other = same_Some number other (same_Some (Some number) (Some other) (sym (gets.same k e) ∙ is)) in
           subst (λ b. IsPulled arcs new (timed labels.time arc.to labels.now) b other) e
           (subst (λ n. IsPulled arcs new (timed labels.time arc.to labels.now) arc.to n) same (pulled_new arcs lat new labels.time labels.now number arc at counts moved more labels.past)))
-          (λ (differs : arc.to ≡ k → ⊥). pulled_old arcs lat new labels.time labels.now arc.to (label_of lat arc) k other moved more labels.past differs (labels.some k other (sym (gets.other k differs) ∙ is)))
+          (λ (differs : arc.to ≡ k → ⊥). pulled_old arcs lat new labels.time labels.now arc.to
+          (label_of lat arc) k other moved more labels.past differs
+          (labels.some k other (sym (gets.other k differs) ∙ is)))
           (cases_eq arc.to k);
       least = λ other feasible k. ⊎_elim
           (λ (e : arc.to ≡ k).
@@ -155,14 +164,18 @@ queue_length s arc number = by_pending (is_pending s.pending arc.to)
     by_pending false = simp length-append (omega arith)
 
 -- the end of an arc has a latency and a mark
-end_inside : (arcs : List Arc) (count : ℕ) (s : State) (number : ℕ) (arc : Arc) → AreKnown arcs count → slice_get arcs number ≡ Some arc → IsState arcs count s → (arc.to < length s.lat) × (arc.to < length s.pending)
+end_inside : (arcs : List Arc) (count : ℕ) (s : State) (number : ℕ) (arc : Arc) → AreKnown arcs count
+    → slice_get arcs number ≡ Some arc → IsState arcs count s
+    → (arc.to < length s.lat) × (arc.to < length s.pending)
 end_inside arcs count s number arc known at state =
     let size = state.size in
     let pending = state.pending in
     let to = known.to number arc at in
     (omega (arith, size, to), omega (arith, pending, to))
 
-pub state_taken : (arcs : List Arc) (count : ℕ) (s : State) (number : ℕ) (arc : Arc) → AreKnown arcs count → slice_get arcs number ≡ Some arc → arc.counts ≡ true → latency_at s.lat arc.to < label_of s.lat arc → IsState arcs count s → IsState arcs count (taken s arc number)
+pub state_taken : (arcs : List Arc) (count : ℕ) (s : State) (number : ℕ) (arc : Arc) → AreKnown arcs count
+    → slice_get arcs number ≡ Some arc → arc.counts ≡ true → latency_at s.lat arc.to < label_of s.lat arc
+    → IsState arcs count s → IsState arcs count (taken s arc number)
 state_taken arcs count s number arc known at counts more state =
     let held = end_inside arcs count s number arc known at state in
     let inside = held.0 in
@@ -170,7 +183,9 @@ state_taken arcs count s number arc known at counts more state =
     record {
       size = length-set s.lat arc.to (label_of s.lat arc) ∙ state.size;
       pending = length-set s.pending arc.to true ∙ state.pending;
-      labels = labels_taken arcs s.lat (slice_set s.lat arc.to (label_of s.lat arc)) s.tight number arc at counts inside (length-set s.lat arc.to (label_of s.lat arc)) (set_moves s.lat arc.to (label_of s.lat arc) 0 inside) more state.labels;
+      labels = labels_taken arcs s.lat (slice_set s.lat arc.to (label_of s.lat arc)) s.tight number arc at counts
+          inside (length-set s.lat arc.to (label_of s.lat arc))
+          (set_moves s.lat arc.to (label_of s.lat arc) 0 inside) more state.labels;
       queued = λ block is. ⊎_elim
           (λ (e : arc.to ≡ block). subst (λ b. IsIn (taken s arc number).queue b) e (queue_has s arc number state.queued))
           (λ (differs : arc.to ≡ block → ⊥). let q = state.queued block (sym (marks.other block differs) ∙ is) in record { place = q.place; at = queue_keeps s arc number q.place block q.at })
@@ -190,7 +205,9 @@ pub record IsRest (left rest : List ℕ) (number : ℕ) : Type 0 where
 abbrev Excused : List Arc → State → List ℕ → ℕ → Arc → Type 0
 Excused arcs s left number arc = (latency_at s.lat arc.from + arc.gain ≤ latency_at s.lat arc.to + arc.slack) ⊎ ((is_pending s.pending arc.from ≡ true) ⊎ IsIn left number)
 
-pub settled_taken : (arcs : List Arc) (count : ℕ) (s : State) (left rest : List ℕ) (number : ℕ) (arc : Arc) → AreKnown arcs count → IsState arcs count s → slice_get arcs number ≡ Some arc → latency_at s.lat arc.to < label_of s.lat arc
+pub settled_taken : (arcs : List Arc) (count : ℕ) (s : State) (left rest : List ℕ) (number : ℕ) (arc : Arc)
+    → AreKnown arcs count → IsState arcs count s → slice_get arcs number ≡ Some arc
+    → latency_at s.lat arc.to < label_of s.lat arc
     → IsRest left rest number → AreSettled arcs s left → AreSettled arcs (taken s arc number) rest
 settled_taken arcs count s left rest number arc known state at more next settled =
     let held = end_inside arcs count s number arc known at state in
@@ -222,7 +239,9 @@ settled_taken arcs count s left rest number arc known state at more next settled
           (cases_eq arc.to other.from);
     }
 
-pub settled_passed : (arcs : List Arc) (s : State) (left rest : List ℕ) (number : ℕ) (arc : Arc) → slice_get arcs number ≡ Some arc → label_of s.lat arc ≤ latency_at s.lat arc.to → IsRest left rest number → AreSettled arcs s left → AreSettled arcs s rest
+pub settled_passed : (arcs : List Arc) (s : State) (left rest : List ℕ) (number : ℕ) (arc : Arc)
+    → slice_get arcs number ≡ Some arc → label_of s.lat arc ≤ latency_at s.lat arc.to → IsRest left rest number
+    → AreSettled arcs s left → AreSettled arcs s rest
 settled_passed arcs s left rest number arc at enough next settled = record {
   settled = λ k other there counts. ⊎_elim
       (λ kept. inl kept)
@@ -240,7 +259,9 @@ settled_passed arcs s left rest number arc at enough next settled = record {
 
 -- ---- what is left to do
 
-pub work_taken : (s : State) (number limit : ℕ) (arc : Arc) → arc.to < length s.lat → latency_at s.lat arc.to < label_of s.lat arc → label_of s.lat arc ≤ limit → work_of limit (taken s arc number) ≤ work_of limit s
+pub work_taken : (s : State) (number limit : ℕ) (arc : Arc) → arc.to < length s.lat
+    → latency_at s.lat arc.to < label_of s.lat arc → label_of s.lat arc ≤ limit
+    → work_of limit (taken s arc number) ≤ work_of limit s
 work_taken s number limit arc inside more below =
     let sums = sum_by-set (λ label. limit - label) s.lat arc.to (label_of s.lat arc) 0 inside in
     let queue = queue_length s arc number in

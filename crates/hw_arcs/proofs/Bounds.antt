@@ -44,7 +44,9 @@ lowered_keeps arcs lat most low high feasible ask gap wide = record {
   where
     by_ends : (from new_from to new_to gain slack : ℕ) → from + gain ≤ to + slack → gain ≤ slack + most → IsLowered from new_from high → IsLowered to new_to high
         → (from ≤ low) ⊎ (high < from) → (high < to) ⊎ (to ≤ high) → new_from + gain ≤ new_to + slack
-    by_ends from new_from to new_to gain slack keeps little f t (inl early) (inl late) = let a = f.low (omega (arith, early, wide)) in let b = t.high late in omega (arith, keeps, little, a, b, early, late, wide)
+    by_ends from new_from to new_to gain slack keeps little f t (inl early) (inl late) = let a =
+        f.low (omega (arith, early, wide)) in let b =
+        t.high late in omega (arith, keeps, little, a, b, early, late, wide)
     by_ends from new_from to new_to gain slack keeps little f t (inl early) (inr soon) = let a = f.low (omega (arith, early, wide)) in let b = t.low soon in omega (arith, keeps, a, b)
     by_ends from new_from to new_to gain slack keeps little f t (inr after) (inl late) = let a = f.high after in let b = t.high late in omega (arith, keeps, a, b)
     by_ends from new_from to new_to gain slack keeps little f t (inr after) (inr soon) = let a = f.high after in let b = t.low soon in omega (arith, keeps, a, b)

@@ -14,7 +14,9 @@ use Rattle.math_list.proofs.Places.{all_cons}
 
 -- ---- joining and cutting
 
-pub chain_joins : (arcs : List Arc) (tight : List (Option ℕ)) (first middle end : ℕ) (xs ys : List ℕ) → IsChain arcs tight first xs middle → IsChain arcs tight middle ys end → IsChain arcs tight first (xs ++ ys) end
+pub chain_joins : (arcs : List Arc) (tight : List (Option ℕ)) (first middle end : ℕ) (xs ys : List ℕ)
+    → IsChain arcs tight first xs middle → IsChain arcs tight middle ys end
+    → IsChain arcs tight first (xs ++ ys) end
 chain_joins arcs tight first middle end [] ys before after = subst (λ b. IsChain arcs tight b ys end) (sym before) after
 chain_joins arcs tight first middle end (x ∷ xs) ys before after = (before.0, before.1, before.2, chain_joins arcs tight before.0 middle end xs ys before.3 after)
 
@@ -31,7 +33,9 @@ chain_cuts arcs tight first end (x ∷ xs) ys chain =
 
 -- ---- gains
 
-value_is : (value : Arc → ℕ) (arcs : List Arc) (tight : List (Option ℕ)) (block number : ℕ) (arc : Arc) → slice_get tight block ≡ Some (Some number) → slice_get arcs number ≡ Some arc → of_number value arcs (slice_index_or tight block None) ≡ value arc
+value_is : (value : Arc → ℕ) (arcs : List Arc) (tight : List (Option ℕ)) (block number : ℕ) (arc : Arc)
+    → slice_get tight block ≡ Some (Some number) → slice_get arcs number ≡ Some arc
+    → of_number value arcs (slice_index_or tight block None) ≡ value arc
 value_is value arcs tight block number arc given at =
     ap (of_number value arcs) (get_or_from_slice_get tight block (Some number) None given) ∙ ap (of_arc value) at
 
@@ -41,7 +45,8 @@ record IsAsked (arcs : List Arc) (tight : List (Option ℕ)) (block next : ℕ) 
   gain : gain_into arcs tight block ≡ arc.gain
   slack : slack_into arcs tight block ≡ arc.slack
 
-pulled_by : (arcs : List Arc) (tight : List (Option ℕ)) (block next : ℕ) (step : IsStepBack arcs tight block next) (arc : Arc) → slice_get arcs step.number ≡ Some arc → IsAsked arcs tight block next arc
+pulled_by : (arcs : List Arc) (tight : List (Option ℕ)) (block next : ℕ) (step : IsStepBack arcs tight block next)
+    (arc : Arc) → slice_get arcs step.number ≡ Some arc → IsAsked arcs tight block next arc
 pulled_by arcs tight block next step arc at = record {
   from = ap (λ (a : Arc). a.from) (same_Some arc step.arc (sym at ∙ step.at)) ∙ step.from;
   gain = value_is (λ a. a.gain) arcs tight block step.number arc step.given at;
@@ -71,7 +76,8 @@ chain_gains arcs lat tight labels first end (x ∷ xs) chain =
     let more = chain_gains arcs lat tight labels chain.0 end xs chain.3 in
     let both = gained_more (latency_at lat first) (latency_at lat x) (latency_at lat pulled.arc.from) (latency_at lat chain.0) (latency_at lat end)
     (labels.time first) (labels.time x) (labels.time pulled.arc.from) (labels.time chain.0) (labels.time end)
-    pulled.arc.gain pulled.arc.slack (gain_into arcs tight x) (slack_into arcs tight x) (gains_of arcs tight xs) (slacks_of arcs tight xs) (gains_of arcs tight (x ∷ xs)) (slacks_of arcs tight (x ∷ xs)) (length xs)
+    pulled.arc.gain pulled.arc.slack (gain_into arcs tight x) (slack_into arcs tight x) (gains_of arcs tight xs)
+    (slacks_of arcs tight xs) (gains_of arcs tight (x ∷ xs)) (slacks_of arcs tight (x ∷ xs)) (length xs)
     asks.gain asks.slack gains slacks begins began next nexts pulled.weak pulled.strict more.weak more.tied in
     record { weak = both.0; tied = both.1 }
   where
@@ -86,7 +92,9 @@ chain_gains arcs lat tight labels first end (x ∷ xs) chain =
     )
 
 -- a way back that closes gains
-pub ring_gains : (arcs : List Arc) (lat : List ℕ) (tight : List (Option ℕ)) → AreLabels arcs lat tight → (first : ℕ) (xs : List ℕ) → IsChain arcs tight first xs first → 0 < length xs → slacks_of arcs tight xs < gains_of arcs tight xs
+pub ring_gains : (arcs : List Arc) (lat : List ℕ) (tight : List (Option ℕ)) → AreLabels arcs lat tight
+    → (first : ℕ) (xs : List ℕ) → IsChain arcs tight first xs first → 0 < length xs
+    → slacks_of arcs tight xs < gains_of arcs tight xs
 ring_gains arcs lat tight labels first xs chain some =
     let gained = chain_gains arcs lat tight labels first first xs chain in
     ⊎_elim
@@ -118,7 +126,8 @@ pub record HasArcs (arcs : List Arc) (tight : List (Option ℕ)) (first : ℕ) (
   pub gains : sum_by (λ (arc : Arc). arc.gain) edges ≡ gains_of arcs tight xs
   pub slacks : sum_by (λ (arc : Arc). arc.slack) edges ≡ slacks_of arcs tight xs
 
-pub chain_arcs : (arcs : List Arc) (lat : List ℕ) (tight : List (Option ℕ)) → AreLabels arcs lat tight → (first end : ℕ) (xs : List ℕ) → IsChain arcs tight first xs end → HasArcs arcs tight first xs end
+pub chain_arcs : (arcs : List Arc) (lat : List ℕ) (tight : List (Option ℕ)) → AreLabels arcs lat tight
+    → (first end : ℕ) (xs : List ℕ) → IsChain arcs tight first xs end → HasArcs arcs tight first xs end
 chain_arcs arcs lat tight labels first end [] chain = record {
   edges = [];
   are = λ k d inside. absurd (omega arith);
@@ -137,6 +146,10 @@ chain_arcs arcs lat tight labels first end (x ∷ xs) chain =
       are = all_cons (IsCountedArc arcs) pulled.arc more.edges (record { number = step.number; at = pulled.at; counts = pulled.counts }) more.are;
       to = ap (λ b. b ∷ map (λ (arc : Arc). arc.to) more.edges) pulled.ends ∙ ap (λ bs. x ∷ bs) more.to;
       from = ap (λ b. b ∷ (pulled.arc.from ∷ map (λ (arc : Arc). arc.from) more.edges)) chain.1 ∙ ap (λ b. x ∷ (b ∷ map (λ (arc : Arc). arc.from) more.edges)) asks.from ∙ ap (λ bs. x ∷ bs) more.from;
-      gains = sum_by-cons (λ (arc : Arc). arc.gain) pulled.arc more.edges ∙ ap (λ n. n + sum_by (λ (arc : Arc). arc.gain) more.edges) (sym asks.gain) ∙ ap (λ n. gain_into arcs tight x + n) more.gains ∙ sym (sum_by-cons (gain_into arcs tight) x xs);
-      slacks = sum_by-cons (λ (arc : Arc). arc.slack) pulled.arc more.edges ∙ ap (λ n. n + sum_by (λ (arc : Arc). arc.slack) more.edges) (sym asks.slack) ∙ ap (λ n. slack_into arcs tight x + n) more.slacks ∙ sym (sum_by-cons (slack_into arcs tight) x xs);
+      gains = sum_by-cons (λ (arc : Arc). arc.gain) pulled.arc more.edges
+          ∙ ap (λ n. n + sum_by (λ (arc : Arc). arc.gain) more.edges) (sym asks.gain)
+          ∙ ap (λ n. gain_into arcs tight x + n) more.gains ∙ sym (sum_by-cons (gain_into arcs tight) x xs);
+      slacks = sum_by-cons (λ (arc : Arc). arc.slack) pulled.arc more.edges
+          ∙ ap (λ n. n + sum_by (λ (arc : Arc). arc.slack) more.edges) (sym asks.slack)
+          ∙ ap (λ n. slack_into arcs tight x + n) more.slacks ∙ sym (sum_by-cons (slack_into arcs tight) x xs);
     }

@@ -10,7 +10,8 @@ turned_sum f [] = omega arith
 turned_sum f (first ∷ others) = let p = sum_by_push f others first in let c = sum_by-cons f first others in omega (arith, p, c)
 
 kept_sum : (arcs : List Arc) (lat : List ℕ) (edges : List Arc) → IsFeasible arcs lat → All (IsCountedArc arcs) edges
-    → sum_by (latency_at lat) (map (λ (arc : Arc). arc.from) edges) + sum_by (λ (arc : Arc). arc.gain) edges ≤ sum_by (latency_at lat) (map (λ (arc : Arc). arc.to) edges) + sum_by (λ (arc : Arc). arc.slack) edges
+    → sum_by (latency_at lat) (map (λ (arc : Arc). arc.from) edges) + sum_by (λ (arc : Arc). arc.gain) edges
+    ≤ sum_by (latency_at lat) (map (λ (arc : Arc). arc.to) edges) + sum_by (λ (arc : Arc). arc.slack) edges
 kept_sum arcs lat [] feasible are = omega arith
 kept_sum arcs lat (arc ∷ edges) feasible are =
     let here = are 0 arc (omega arith) in

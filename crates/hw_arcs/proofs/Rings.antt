@@ -26,15 +26,24 @@ counted_after p place path =
     let whole : count_by p (take place path ++ drop place path) ≡ count_by p path = ap (count_by p) (take-append-drop place path) in
     omega (arith, parts, whole)
 
-closed_chain : (arcs : List Arc) (tight : List (Option ℕ)) (first : ℕ) (path : List ℕ) (count place : ℕ) (closed : IsClosed arcs tight first path count place) → IsChain arcs tight closed.end (drop place path) closed.end
+closed_chain : (arcs : List Arc) (tight : List (Option ℕ)) (first : ℕ) (path : List ℕ) (count place : ℕ)
+    (closed : IsClosed arcs tight first path count place)
+    → IsChain arcs tight closed.end (drop place path) closed.end
 closed_chain arcs tight first path count place closed =
     let inside = slice_get_within path place closed.end closed.back in
-    let begins : drop place path ≡ closed.end ∷ drop (place + 1) path = drop_more path place closed.end inside ∙ ap (λ b. b ∷ drop (place + 1) path) (get_or_from_slice_get path place closed.end closed.end closed.back) in
-    let cut = chain_cuts arcs tight first closed.end (take place path) (drop place path) (subst (λ (bs : List ℕ). IsChain arcs tight first bs closed.end) (sym (take-append-drop place path)) closed.way.chain) in
+    let begins : drop place path ≡ closed.end ∷ drop (place + 1) path =
+    drop_more path place closed.end inside
+    ∙ ap (λ b. b ∷ drop (place + 1) path)
+    (get_or_from_slice_get path place closed.end closed.end closed.back) in
+    let cut = chain_cuts arcs tight first closed.end (take place path) (drop place path)
+    (subst (λ (bs : List ℕ). IsChain arcs tight first bs closed.end)
+    (sym (take-append-drop place path)) closed.way.chain) in
     let after : IsChain arcs tight cut.middle (closed.end ∷ drop (place + 1) path) closed.end = subst (λ (bs : List ℕ). IsChain arcs tight cut.middle bs closed.end) begins cut.after in
     subst (λ (bs : List ℕ). IsChain arcs tight closed.end bs closed.end) (sym begins) (after.0, refl, after.2, after.3)
 
-pub ring_of : (arcs : List Arc) (lat : List ℕ) (tight : List (Option ℕ)) (first : ℕ) (path : List ℕ) (count place : ℕ) → AreLabels arcs lat tight → IsClosed arcs tight first path count place → IsRing arcs tight (drop place path) count
+pub ring_of : (arcs : List Arc) (lat : List ℕ) (tight : List (Option ℕ)) (first : ℕ) (path : List ℕ)
+    (count place : ℕ) → AreLabels arcs lat tight → IsClosed arcs tight first path count place
+    → IsRing arcs tight (drop place path) count
 ring_of arcs lat tight first path count place labels closed =
     let inside = slice_get_within path place closed.end closed.back in
     let long = length-drop place path in
@@ -52,7 +61,9 @@ ring_of arcs lat tight first path count place labels closed =
     }
 
 -- a way back that ends bounds the latency that it began with
-pub ended_small : (arcs : List Arc) (lat : List ℕ) (tight : List (Option ℕ)) (first : ℕ) (path : List ℕ) (count : ℕ) → AreKnown arcs count → AreLabels arcs lat tight → IsEnded arcs tight first path count → latency_at lat first ≤ count * most_gain
+pub ended_small : (arcs : List Arc) (lat : List ℕ) (tight : List (Option ℕ)) (first : ℕ) (path : List ℕ) (count : ℕ)
+    → AreKnown arcs count → AreLabels arcs lat tight → IsEnded arcs tight first path count
+    → latency_at lat first ≤ count * most_gain
 ended_small arcs lat tight first path count known labels ended =
     let gained = (chain_gains arcs lat tight labels first ended.end path ended.way.chain).weak in
     let none = labels.none ended.end ended.free in
@@ -134,7 +145,9 @@ summed_turned f ring place inside =
     let ry = summed_back f y in
     omega (arith, whole, parts, head, turned_head, turned_parts, rx, ry)
 
-pub cycle_is : (arcs : List Arc) (lat : List ℕ) (tight : List (Option ℕ)) (ring cycle : List ℕ) (count total : ℕ) → AreLabels arcs lat tight → IsRing arcs tight ring count → IsTurnedBack ring cycle → total + slacks_of arcs tight ring ≡ gains_of arcs tight ring
+pub cycle_is : (arcs : List Arc) (lat : List ℕ) (tight : List (Option ℕ)) (ring cycle : List ℕ) (count total : ℕ)
+    → AreLabels arcs lat tight → IsRing arcs tight ring count → IsTurnedBack ring cycle
+    → total + slacks_of arcs tight ring ≡ gains_of arcs tight ring
     → IsGainingCycle arcs cycle total
 cycle_is arcs lat tight ring cycle count total labels is turn sum =
     let place = turn.place in
@@ -165,7 +178,11 @@ cycle_is arcs lat tight ring cycle count total labels is turn sum =
           omega (arith, g, s, hg, hs, turned_gains, turned_slacks, sum);
       above = omega (arith, sum, more);
       different = λ i j d below there same_block.
-          apart cycle i j d (λ b. let e : count_by (λ other. other == b) cycle ≡ count_by (λ other. other == b) (back_from ring place) = ap (count_by (λ other. other == b)) turn.is in let t = summed_turned (λ other. cond (other == b) 1 0) ring place inside in let o = is.once b in omega (arith, e, t, o))
+          apart cycle i j d (λ b. let e : count_by (λ other. other == b) cycle
+          ≡ count_by (λ other. other == b) (back_from ring place) =
+          ap (count_by (λ other. other == b)) turn.is in let t =
+          summed_turned (λ other. cond (other == b) 1 0) ring place inside in let o =
+          is.once b in omega (arith, e, t, o))
           below there same_block;
     }
   where

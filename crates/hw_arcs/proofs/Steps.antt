@@ -31,7 +31,9 @@ pub record IsLooked (arcs : List Arc) (count limit : ℕ) (s now after : State) 
   pub there : arc.to < count
   pub on : latency_at after.lat arc.to ≤ limit → IsOnRow arcs count limit s after left
 
-pub looked : (arcs : List Arc) (count limit : ℕ) (s now : State) (left rest : List ℕ) (number : ℕ) (arc : Arc) → AreKnown arcs count → slice_get arcs number ≡ Some arc → arc.counts ≡ true → IsRest left rest number → IsOnRow arcs count limit s now left
+pub looked : (arcs : List Arc) (count limit : ℕ) (s now : State) (left rest : List ℕ) (number : ℕ) (arc : Arc)
+    → AreKnown arcs count → slice_get arcs number ≡ Some arc → arc.counts ≡ true → IsRest left rest number
+    → IsOnRow arcs count limit s now left
     → IsLooked arcs count limit s now (relaxed now arc number) rest arc
 looked arcs count limit s now left rest number arc known at counts next on = by_test (nat_lt (latency_at now.lat arc.to) (label_of now.lat arc)) refl
   where
@@ -85,7 +87,9 @@ row_rest row i number inside is = record {
     by_place other (suc place) at = inr (record { place = place; at = at })
 
 -- the next arc of a row, as the code reads it
-pub row_looked : (arcs : List Arc) (count limit : ℕ) (s now after : State) (row : List ℕ) (i : ℕ) (d : Arc) → AreKnown arcs count → AreCounted arcs row → i < length row → after ≡ relaxed now (get_or arcs (get_or row i 0) d) (get_or row i 0)
+pub row_looked : (arcs : List Arc) (count limit : ℕ) (s now after : State) (row : List ℕ) (i : ℕ) (d : Arc)
+    → AreKnown arcs count → AreCounted arcs row → i < length row
+    → after ≡ relaxed now (get_or arcs (get_or row i 0) d) (get_or row i 0)
     → IsOnRow arcs count limit s now (drop i row) → IsLooked arcs count limit s now after (drop (i + 1) row) (get_or arcs (get_or row i 0) d)
 row_looked arcs count limit s now after row i d known counted inside is on =
     let number = get_or row i 0 in
@@ -93,7 +97,9 @@ row_looked arcs count limit s now after row i d known counted inside is on =
     let there = slice_get_within arcs number here.0 here.1 in
     let same : get_or arcs number d ≡ here.0 = get_or_from_slice_get arcs number here.0 d here.1 in
     subst (λ (a : State). IsLooked arcs count limit s now a (drop (i + 1) row) (get_or arcs number d)) (sym is)
-    (looked arcs count limit s now (drop i row) (drop (i + 1) row) number (get_or arcs number d) known (slice_get-get_or arcs number d there) (ap (λ (a : Arc). a.counts) same ∙ here.2) (row_rest row i number inside refl) on)
+    (looked arcs count limit s now (drop i row) (drop (i + 1) row) number (get_or arcs number d) known
+    (slice_get-get_or arcs number d there) (ap (λ (a : Arc). a.counts) same ∙ here.2)
+    (row_rest row i number inside refl) on)
 
 -- ---- a block of the queue
 
@@ -222,7 +228,9 @@ begun_is arcs order count s known whole is =
     }
 
 -- the same of blocks that were placed, over rows that are as many
-pub begun_by : (arcs : List Arc) (count : ℕ) (rows : List (List ℕ)) (blocks : List ℕ) (s : State) → AreKnown arcs count → length rows ≡ count → IsWhole blocks (length rows) → s ≡ begun blocks count → IsBegun arcs count s
+pub begun_by : (arcs : List Arc) (count : ℕ) (rows : List (List ℕ)) (blocks : List ℕ) (s : State)
+    → AreKnown arcs count → length rows ≡ count → IsWhole blocks (length rows) → s ≡ begun blocks count
+    → IsBegun arcs count s
 begun_by arcs count rows blocks s known size whole is = begun_is arcs blocks count s known (subst (IsWhole blocks) size whole) is
 
 pub within_more : (limit : ℕ) (s : State) → AreWithin 0 s → AreWithin limit s
@@ -262,7 +270,9 @@ least_of arcs count s state feasible =
 
 -- ---- rows
 
-row_noted : (rows : List (List ℕ)) (block number other : ℕ) → block < length rows → ((block ≡ other) × (row_at (noted rows block number) other ≡ row_at rows block ++ number ∷ [])) ⊎ ((block ≡ other → ⊥) × (row_at (noted rows block number) other ≡ row_at rows other))
+row_noted : (rows : List (List ℕ)) (block number other : ℕ) → block < length rows
+    → ((block ≡ other) × (row_at (noted rows block number) other ≡ row_at rows block ++ number ∷ []))
+    ⊎ ((block ≡ other → ⊥) × (row_at (noted rows block number) other ≡ row_at rows other))
 row_noted rows block number other inside = ⊎_elim
     (λ (e : block ≡ other). inl (e, (set_moves rows block (row_at rows block ++ number ∷ []) [] inside).same other e))
     (λ (differs : block ≡ other → ⊥). inr (differs, (set_moves rows block (row_at rows block ++ number ∷ []) [] inside).other other differs))
@@ -290,7 +300,9 @@ rows_skip arcs count i arc rows at idle rows_of = record {
       (cases_eq number i);
 }
 
-pub rows_more : (arcs : List Arc) (count i : ℕ) (arc : Arc) (rows : List (List ℕ)) → arc.from < count → slice_get arcs i ≡ Some arc → arc.counts ≡ true → AreRowsOf arcs count i rows → AreRowsOf arcs count (i + 1) (noted rows arc.from i)
+pub rows_more : (arcs : List Arc) (count i : ℕ) (arc : Arc) (rows : List (List ℕ)) → arc.from < count
+    → slice_get arcs i ≡ Some arc → arc.counts ≡ true → AreRowsOf arcs count i rows
+    → AreRowsOf arcs count (i + 1) (noted rows arc.from i)
 rows_more arcs count i arc rows from at counts rows_of =
     let size = rows_of.size in
     let inside : arc.from < length rows = omega (arith, size, from) in
@@ -314,14 +326,22 @@ rows_more arcs count i arc rows from at counts rows_of =
           (λ (differs : number ≡ i → ⊥).
           let old = rows_of.whole number other (omega arith) there other_counts in
           ⊎_elim
-          (λ new. record { place = old.place; at = ap (λ (r : List ℕ). slice_get r old.place) new.1 ∙ get_left (row_at rows arc.from) (i ∷ []) old.place number (ap (λ b. slice_get (row_at rows b) old.place) new.0 ∙ old.at) })
+          (λ new. record {
+            place = old.place;
+            at =
+                ap (λ (r : List ℕ). slice_get r old.place) new.1
+                ∙ get_left (row_at rows arc.from) (i ∷ []) old.place number
+                (ap (λ b. slice_get (row_at rows b) old.place) new.0 ∙ old.at);
+          })
           (λ kept. record { place = old.place; at = ap (λ (r : List ℕ). slice_get r old.place) kept.1 ∙ old.at })
           (row_noted rows arc.from i other.from inside))
           (cases_eq number i);
     }
 
 -- the same of the arc that the code reads
-pub rows_next : (arcs : List Arc) (count i : ℕ) (d : Arc) (rows : List (List ℕ)) → AreKnown arcs count → i < length arcs → (get_or arcs i d).counts ≡ true → AreRowsOf arcs count i rows → AreRowsOf arcs count (i + 1) (noted rows (get_or arcs i d).from i)
+pub rows_next : (arcs : List Arc) (count i : ℕ) (d : Arc) (rows : List (List ℕ)) → AreKnown arcs count
+    → i < length arcs → (get_or arcs i d).counts ≡ true → AreRowsOf arcs count i rows
+    → AreRowsOf arcs count (i + 1) (noted rows (get_or arcs i d).from i)
 rows_next arcs count i d rows known inside counts rows_of =
     let at = slice_get-get_or arcs i d inside in
     rows_more arcs count i (get_or arcs i d) rows (known.from i (get_or arcs i d) at) at counts rows_of

@@ -33,19 +33,23 @@ taken_between (first ∷ before) block after =
       less = let less = rest.less in omega (arith, less);
     }
   where
-    by_place : IsTakenFrom (before ++ block ∷ after) block (before ++ after) → (other place : ℕ) → slice_get (first ∷ (before ++ block ∷ after)) place ≡ Some other → (block ≡ other) ⊎ IsIn (first ∷ (before ++ after)) other
+    by_place : IsTakenFrom (before ++ block ∷ after) block (before ++ after) → (other place : ℕ)
+        → slice_get (first ∷ (before ++ block ∷ after)) place ≡ Some other
+        → (block ≡ other) ⊎ IsIn (first ∷ (before ++ after)) other
     by_place rest other zero at = inr (record { place = 0; at = at })
     by_place rest other (suc place) at = ⊎_elim
         (λ e. inl e)
         (λ (left : IsIn (before ++ after) other). inr (record { place = suc left.place; at = left.at }))
         (rest.keeps other (record { place = place; at = at }))
 
-    of_place : IsTakenFrom (before ++ block ∷ after) block (before ++ after) → (place other : ℕ) → slice_get (first ∷ (before ++ after)) place ≡ Some other → IsIn (first ∷ (before ++ block ∷ after)) other
+    of_place : IsTakenFrom (before ++ block ∷ after) block (before ++ after) → (place other : ℕ)
+        → slice_get (first ∷ (before ++ after)) place ≡ Some other → IsIn (first ∷ (before ++ block ∷ after)) other
     of_place rest zero other at = record { place = 0; at = at }
     of_place rest (suc place) other at = let old = rest.of place other at in record { place = suc old.place; at = old.at }
 
 -- what is taken from the front of the queue
-pub popped_is : (older later front rest : List ℕ) (next : Option ℕ) (before after : ℕ) → later ++ front ≡ older → (front ≡ [] → later ++ front ≡ []) → length front ≡ before → front ≡ option_to_list next ++ rest
+pub popped_is : (older later front rest : List ℕ) (next : Option ℕ) (before after : ℕ) → later ++ front ≡ older
+    → (front ≡ [] → later ++ front ≡ []) → length front ≡ before → front ≡ option_to_list next ++ rest
     → MatchOption next ((before ≡ 0) × (after ≡ 0)) (λ _. after + 1 ≡ before) → IsPopped older (later ++ rest) next
 popped_is older later front rest None before after same none long items cases =
     let empty : front ≡ [] = nil_from_length front (omega (arith, cases.0, long)) in

@@ -34,7 +34,9 @@ none_counted : (n : ℕ) → count_by (λ b. b) (replicate n false) ≡ 0
 none_counted zero = refl
 none_counted (suc n) = none_counted n
 
-pub walking_begins : (arcs : List Arc) (tight : List (Option ℕ)) (first : ℕ) (path : List ℕ) (met : List Bool) → path ≡ [] → met ≡ replicate (length tight) false → first < length tight → IsWalking arcs tight first path first met
+pub walking_begins : (arcs : List Arc) (tight : List (Option ℕ)) (first : ℕ) (path : List ℕ) (met : List Bool)
+    → path ≡ [] → met ≡ replicate (length tight) false → first < length tight
+    → IsWalking arcs tight first path first met
 walking_begins arcs tight first path met none are inside = rw (none, are) record {
   size = length-replicate (length tight) false;
   chain = refl;
@@ -52,7 +54,9 @@ counted_more path at block differs =
     let e : one_if (at == block) ≡ 0 = ap one_if (ne_eqb at block differs) in
     omega (arith, p, e)
 
-pub walking_more : (arcs : List Arc) (tight : List (Option ℕ)) (first : ℕ) (path : List ℕ) (at number : ℕ) (arc : Arc) (met : List Bool) → AreKnown arcs (length tight) → get_or met at false ≡ false → slice_get tight at ≡ Some (Some number) → slice_get arcs number ≡ Some arc
+pub walking_more : (arcs : List Arc) (tight : List (Option ℕ)) (first : ℕ) (path : List ℕ) (at number : ℕ)
+    (arc : Arc) (met : List Bool) → AreKnown arcs (length tight) → get_or met at false ≡ false
+    → slice_get tight at ≡ Some (Some number) → slice_get arcs number ≡ Some arc
     → IsWalking arcs tight first path at met → IsWalking arcs tight first (path ++ at ∷ []) arc.from (slice_set met at true)
 walking_more arcs tight first path at number arc met known fresh given there walking =
     let size = walking.size in
@@ -99,10 +103,15 @@ way_of arcs tight first path at met walking = record {
   inside = walking.inside;
 }
 
-pub walking_ends : (arcs : List Arc) (tight : List (Option ℕ)) (first : ℕ) (path : List ℕ) (at : ℕ) (met : List Bool) → slice_get tight at ≡ Some None → IsWalking arcs tight first path at met → IsWalked arcs tight first path (length tight) None
+pub walking_ends : (arcs : List Arc) (tight : List (Option ℕ)) (first : ℕ) (path : List ℕ) (at : ℕ)
+    (met : List Bool) → slice_get tight at ≡ Some None → IsWalking arcs tight first path at met
+    → IsWalked arcs tight first path (length tight) None
 walking_ends arcs tight first path at met free walking = record { end = at; way = way_of arcs tight first path at met walking; free = free }
 
-pub walking_closes : (arcs : List Arc) (tight : List (Option ℕ)) (first : ℕ) (path : List ℕ) (at : ℕ) (met : List Bool) (place : Option ℕ) → get_or met at false ≡ true → MatchOption place (IsOut path at) (λ k. slice_get path k ≡ Some at) → IsWalking arcs tight first path at met
+pub walking_closes : (arcs : List Arc) (tight : List (Option ℕ)) (first : ℕ) (path : List ℕ) (at : ℕ)
+    (met : List Bool) (place : Option ℕ) → get_or met at false ≡ true
+    → MatchOption place (IsOut path at) (λ k. slice_get path k ≡ Some at)
+    → IsWalking arcs tight first path at met
     → IsWalked arcs tight first path (length tight) place
 walking_closes arcs tight first path at met None is found walking = let in_it = walking.met_in at is in absurd (found.out in_it.place in_it.at)
 walking_closes arcs tight first path at met (Some k) is found walking = record { end = at; way = way_of arcs tight first path at met walking; back = found }
@@ -116,16 +125,22 @@ walking_shorter arcs tight first path at met walking = let count = walking.count
 at_read : {A : Type 0} (xs : List A) (at : ℕ) (is value d : A) → is ≡ get_or xs at is → is ≡ value → at < length xs → get_or xs at d ≡ value
 at_read xs at is value d read same inside = sym (get_or_read xs at is inside read d) ∙ same
 
-pub walking_on : (arcs : List Arc) (tight : List (Option ℕ)) (first : ℕ) (path new : List ℕ) (at number : ℕ) (d : Arc) (met : List Bool) (is_met : Bool) → AreKnown arcs (length tight) → AreGiven arcs tight → is_met ≡ get_or met at is_met → is_met ≡ false
+pub walking_on : (arcs : List Arc) (tight : List (Option ℕ)) (first : ℕ) (path new : List ℕ) (at number : ℕ)
+    (d : Arc) (met : List Bool) (is_met : Bool) → AreKnown arcs (length tight) → AreGiven arcs tight
+    → is_met ≡ get_or met at is_met → is_met ≡ false
     → get_or tight at None ≡ Some number → new ≡ path ++ at ∷ [] → IsWalking arcs tight first path at met → IsWalking arcs tight first new (get_or arcs number d).from (slice_set met at true)
 walking_on arcs tight first path new at number d met is_met known given read fresh here longer walking =
     let size = walking.size in
     let inside = walking.inside in
     let there : slice_get tight at ≡ Some (Some number) = slice_get-get_or tight at None inside ∙ ap Some here in
     subst (λ (bs : List ℕ). IsWalking arcs tight first bs (get_or arcs number d).from (slice_set met at true)) (sym longer)
-    (walking_more arcs tight first path at number (get_or arcs number d) met known (at_read met at is_met false false read fresh (omega (arith, size, inside))) there (slice_get-get_or arcs number d (given.given at number there)) walking)
+    (walking_more arcs tight first path at number (get_or arcs number d) met known
+    (at_read met at is_met false false read fresh (omega (arith, size, inside))) there
+    (slice_get-get_or arcs number d (given.given at number there)) walking)
 
-pub walking_falls : (arcs : List Arc) (tight : List (Option ℕ)) (first : ℕ) (path new : List ℕ) (at next : ℕ) (met : List Bool) → new ≡ path ++ at ∷ [] → IsWalking arcs tight first new next met → length tight - length new < length tight - length path
+pub walking_falls : (arcs : List Arc) (tight : List (Option ℕ)) (first : ℕ) (path new : List ℕ) (at next : ℕ)
+    (met : List Bool) → new ≡ path ++ at ∷ [] → IsWalking arcs tight first new next met
+    → length tight - length new < length tight - length path
 walking_falls arcs tight first path new at next met longer walking =
     let size = walking.size in
     let short = walking_shorter arcs tight first new next met walking in
@@ -133,7 +148,9 @@ walking_falls arcs tight first path new at next met longer walking =
     let more = length-append path (at ∷ []) in
     omega (arith, size, short, long, more)
 
-pub walking_stops : (arcs : List Arc) (tight : List (Option ℕ)) (first : ℕ) (path slice : List ℕ) (at : ℕ) (met : List Bool) (is_met : Bool) (place : Option ℕ) → is_met ≡ get_or met at is_met → is_met ≡ true → slice ≡ path
+pub walking_stops : (arcs : List Arc) (tight : List (Option ℕ)) (first : ℕ) (path slice : List ℕ) (at : ℕ)
+    (met : List Bool) (is_met : Bool) (place : Option ℕ) → is_met ≡ get_or met at is_met → is_met ≡ true
+    → slice ≡ path
     → MatchOption place (IsOut slice at) (λ k. slice_get slice k ≡ Some at) → IsWalking arcs tight first path at met → IsWalked arcs tight first path (length tight) place
 walking_stops arcs tight first path slice at met is_met place read known same found walking =
     let size = walking.size in

@@ -7,7 +7,9 @@ use Rattle.hw_arcs.specs.declared.arc.Arc.{Arc}
 use Rattle.hw_arcs.specs.Latencies.{latency_at, IsFeasible, IsLeast}
 use Rattle.hw_arcs.proofs.Moves.{set_moves}
 
-pub zero_there : (arcs : List Arc) (lat : List ℕ) (block : ℕ) → IsLeast arcs lat → ((number : ℕ) (arc : Arc) → slice_get arcs number ≡ Some arc → arc.counts ≡ true → arc.to ≡ block → ⊥) → latency_at lat block ≡ 0
+pub zero_there : (arcs : List Arc) (lat : List ℕ) (block : ℕ) → IsLeast arcs lat
+    → ((number : ℕ) (arc : Arc) → slice_get arcs number ≡ Some arc → arc.counts ≡ true → arc.to ≡ block → ⊥)
+    → latency_at lat block ≡ 0
 zero_there arcs lat block least none = ⊎_elim
     (λ (inside : block < length lat).
     let moved = set_moves lat block 0 0 inside in

@@ -31,11 +31,23 @@ use Rattle.hw_build.proofs.LineSearch.{line_into_is}
 module _ (diagram : Diagram) (plan : Resolved) (times : Times) (firsts : List (List ℕ)) where
   -- ---- one end
 
-  ask_later : (old new : List Ask) (wants more : List Want) (b : Block) (edge : LatencyEdge) (place element : ℕ) → AsksGrow old new wants more → IsAskAt diagram plan times firsts old wants b edge place element → IsAskAt diagram plan times firsts new more b edge place element
+  ask_later : (old new : List Ask) (wants more : List Want) (b : Block) (edge : LatencyEdge) (place element : ℕ)
+      → AsksGrow old new wants more → IsAskAt diagram plan times firsts old wants b edge place element
+      → IsAskAt diagram plan times firsts new more b edge place element
   ask_later old new wants more b edge place element grow (inl still) = inl (still.0, ask_stays old new wants more place _ None grow still.1)
-  ask_later old new wants more b edge place element grow (inr late) = inr (record { p = late.p; moves = late.moves; want = late.want; asked = ask_stays old new wants more place _ (Some late.want) grow late.asked; is = late.is })
+  ask_later old new wants more b edge place element grow (inr late) =
+      inr (record {
+        p = late.p;
+        moves = late.moves;
+        want = late.want;
+        asked =
+            ask_stays old new wants more place _ (Some late.want) grow late.asked;
+        is = late.is;
+      })
 
-  end_later : (old new : List Ask) (wants more : List Want) (spans : List Span) (last : Span) (number : ℕ) (b : Block) (edge : LatencyEdge) → AsksGrow old new wants more → IsEndAt diagram plan times firsts old wants spans number b edge
+  end_later : (old new : List Ask) (wants more : List Want) (spans : List Span) (last : Span) (number : ℕ)
+      (b : Block) (edge : LatencyEdge) → AsksGrow old new wants more
+      → IsEndAt diagram plan times firsts old wants spans number b edge
       → IsEndAt diagram plan times firsts new more (spans ++ last ∷ []) number b edge
   end_later old new wants more spans last number b edge grow is = record {
     span = is.span;
@@ -44,7 +56,9 @@ module _ (diagram : Diagram) (plan : Resolved) (times : Times) (firsts : List (L
     each = λ element below. ask_later old new wants more b edge (is.span.first + element) element grow (is.each element below);
   }
 
-  end_kept : (old new : List Ask) (wants more : List Want) (spans : List Span) (number : ℕ) (b : Block) (edge : LatencyEdge) → AsksGrow old new wants more → IsEndAt diagram plan times firsts old wants spans number b edge
+  end_kept : (old new : List Ask) (wants more : List Want) (spans : List Span) (number : ℕ) (b : Block)
+      (edge : LatencyEdge) → AsksGrow old new wants more
+      → IsEndAt diagram plan times firsts old wants spans number b edge
       → IsEndAt diagram plan times firsts new more spans number b edge
   end_kept old new wants more spans number b edge grow is = record {
     span = is.span;
@@ -53,7 +67,9 @@ module _ (diagram : Diagram) (plan : Resolved) (times : Times) (firsts : List (L
     each = λ element below. ask_later old new wants more b edge (is.span.first + element) element grow (is.each element below);
   }
 
-  end_last : (old new : List Ask) (wants more : List Want) (spans : List Span) (last : Span) (number : ℕ) (b : Block) (edge : LatencyEdge) → number ≡ length spans → IsSpan (length old) (length new) last → IsEndPut diagram plan times firsts old new wants more b edge
+  end_last : (old new : List Ask) (wants more : List Want) (spans : List Span) (last : Span) (number : ℕ)
+      (b : Block) (edge : LatencyEdge) → number ≡ length spans → IsSpan (length old) (length new) last
+      → IsEndPut diagram plan times firsts old new wants more b edge
       → IsEndAt diagram plan times firsts new more (spans ++ last ∷ []) number b edge
   end_last old new wants more spans last number b edge at span put =
       let begins = span.0 in
@@ -79,13 +95,19 @@ module _ (diagram : Diagram) (plan : Resolved) (times : Times) (firsts : List (L
     allowed = λ net words. record { each = λ k want at. absurd (none-some want at) };
   }
 
-  wants_left : (wants more : List Want) (edge : LatencyEdge) (left rest : List LatencyEdge) (all : List Want) → left ≡ edge ∷ rest → more ≡ wants ++ edge_wants diagram plan times firsts edge → wants ++ flat_map (edge_wants diagram plan times firsts) left ≡ all
+  wants_left : (wants more : List Want) (edge : LatencyEdge) (left rest : List LatencyEdge) (all : List Want)
+      → left ≡ edge ∷ rest → more ≡ wants ++ edge_wants diagram plan times firsts edge
+      → wants ++ flat_map (edge_wants diagram plan times firsts) left ≡ all
       → more ++ flat_map (edge_wants diagram plan times firsts) rest ≡ all
   wants_left wants more edge left rest all split added whole =
-      ap (λ (xs : List Want). xs ++ flat_map (edge_wants diagram plan times firsts) rest) added ∙ append_assoc wants (edge_wants diagram plan times firsts edge) (flat_map (edge_wants diagram plan times firsts) rest)
+      ap (λ (xs : List Want). xs ++ flat_map (edge_wants diagram plan times firsts) rest) added
+      ∙ append_assoc wants (edge_wants diagram plan times firsts edge)
+      (flat_map (edge_wants diagram plan times firsts) rest)
       ∙ sym (ap (λ (es : List LatencyEdge). wants ++ flat_map (edge_wants diagram plan times firsts) es) split) ∙ whole
 
-  pub lines_more : IsWired diagram → (old new : Asks) (lines : List Span) (span : Span) (number : ℕ) (edge : Edge) → AreEndsFor diagram plan times firsts old lines [] number 0 (lines_left diagram number) → slice_get diagram.edges number ≡ Some edge → IsLinePut diagram plan times firsts old new edge
+  pub lines_more : IsWired diagram → (old new : Asks) (lines : List Span) (span : Span) (number : ℕ) (edge : Edge)
+      → AreEndsFor diagram plan times firsts old lines [] number 0 (lines_left diagram number)
+      → slice_get diagram.edges number ≡ Some edge → IsLinePut diagram plan times firsts old new edge
       → IsSpan (length old.list.items) (length new.list.items) span → AreEndsFor diagram plan times firsts new (lines ++ span ∷ []) [] (number + 1) 0 (lines_left diagram (number + 1))
   lines_more wired old new lines span number edge are at put is =
       let into = line_into_is diagram number edge wired at in
@@ -105,25 +127,34 @@ module _ (diagram : Diagram) (plan : Resolved) (times : Times) (firsts : List (L
         ];
         each_control = λ block b control below there feeds. absurd (omega (arith, below));
         numbered = own.grow.numbered are.numbered;
-        whole = wants_left old.wants.items new.wants.items (signal_edge edge) (lines_left diagram number) (lines_left diagram (number + 1)) (flat_map (edge_wants diagram plan times firsts) (latency_edges diagram)) (lines_from diagram number edge (controls_left diagram 0) at) own.added are.whole;
+        whole = wants_left old.wants.items new.wants.items (signal_edge edge) (lines_left diagram number)
+            (lines_left diagram (number + 1)) (flat_map (edge_wants diagram plan times firsts)
+            (latency_edges diagram))
+            (lines_from diagram number edge (controls_left diagram 0) at) own.added are.whole;
         allowed = λ net words. own.allowed net words (are.allowed net words);
       }
 
   -- none is taken away
-  pub line_longer : (old new : Asks) (number : ℕ) (edge : Edge) → IsWired diagram → slice_get diagram.edges number ≡ Some edge → IsLinePut diagram plan times firsts old new edge → length old.list.items ≤ length new.list.items
+  pub line_longer : (old new : Asks) (number : ℕ) (edge : Edge) → IsWired diagram
+      → slice_get diagram.edges number ≡ Some edge → IsLinePut diagram plan times firsts old new edge
+      → length old.list.items ≤ length new.list.items
   line_longer old new number edge wired at put =
       let into = line_into_is diagram number edge wired at in
       let size = (put.end into.block into.is).size in
       omega (arith, size)
 
-  pub control_longer : (old new : Asks) (block : ℕ) (b : Block) → slice_get diagram.blocks block ≡ Some b → IsControlPut diagram plan times firsts old new block → length old.list.items ≤ length new.list.items
+  pub control_longer : (old new : Asks) (block : ℕ) (b : Block) → slice_get diagram.blocks block ≡ Some b
+      → IsControlPut diagram plan times firsts old new block → length old.list.items ≤ length new.list.items
   control_longer old new block b at put = go (control_ever b) (put.end b at)
     where
       go : (o : Option ℕ) → IsControlEnd diagram plan times firsts old new block b o → length old.list.items ≤ length new.list.items
       go None end = let same : length new.list.items ≡ length old.list.items = ap (λ (xs : List Ask). length xs) end.0 in omega (arith, same)
       go (Some control) end = let size = end.size in omega (arith, size)
 
-  pub lines_end : (asks : Asks) (lines : List Span) (number : ℕ) → number ≤ length diagram.edges → length diagram.edges ≤ number → AreEndsFor diagram plan times firsts asks lines [] number 0 (lines_left diagram number) → AreEndsFor diagram plan times firsts asks lines [] (length diagram.edges) 0 (controls_left diagram 0)
+  pub lines_end : (asks : Asks) (lines : List Span) (number : ℕ) → number ≤ length diagram.edges
+      → length diagram.edges ≤ number → AreEndsFor diagram plan times firsts asks lines [] number 0
+      (lines_left diagram number) → AreEndsFor diagram plan times firsts asks lines [] (length diagram.edges) 0
+      (controls_left diagram 0)
   lines_end asks lines number low high are =
       let here : number ≡ length diagram.edges = omega (arith, low, high) in
       let none : drop (length diagram.edges) diagram.edges ≡ [] = drop_all (length diagram.edges) diagram.edges (omega arith) in
@@ -146,7 +177,10 @@ module _ (diagram : Diagram) (plan : Resolved) (times : Times) (firsts : List (L
   one_edge place control true (Some other) e = ap (λ (n : ℕ). control_edge n place ∷ []) (same_Some other control e)
   one_edge place control false enable e = absurd (none-some control e)
 
-  module _ (old new : Asks) (lines controls : List Span) (span : Span) (lined number : ℕ) (b : Block) (at : slice_get diagram.blocks number ≡ Some b) (are : AreEndsFor diagram plan times firsts old lines controls lined number (controls_left diagram number))
+  module _ (old new : Asks) (lines controls : List Span) (span : Span) (lined number : ℕ) (b : Block)
+      (at : slice_get diagram.blocks number ≡ Some b)
+      (are : AreEndsFor diagram plan times firsts old lines controls lined number
+      (controls_left diagram number))
       (is : IsSpan (length old.list.items) (length new.list.items) span)
     where
       abbrev Next : Type 0
@@ -160,12 +194,17 @@ module _ (diagram : Diagram) (plan : Resolved) (times : Times) (firsts : List (L
           let grow : AsksGrow old.list.items new.list.items old.wants.items new.wants.items = record {
             list = λ k ask here. ap (λ (xs : List Ask). slice_get xs k) list ∙ here;
             wants_stay = λ k want here. ap (λ (xs : List Want). slice_get xs k) wants ∙ here;
-            numbered = λ numbered. record { each = λ k ask here. subst (λ (xs : List Want). IsNumber (length xs) ask.want) (sym wants) (numbered.each k ask (sym (ap (λ (xs : List Ask). slice_get xs k) list) ∙ here)) };
+            numbered = λ numbered. record {
+              each =
+                  λ k ask here. subst (λ (xs : List Want). IsNumber (length xs) ask.want) (sym wants)
+                  (numbered.each k ask (sym (ap (λ (xs : List Ask). slice_get xs k) list) ∙ here));
+            };
           } in
           record {
             line_count_is = are.line_count_is;
             control_count_is = length-append controls (span ∷ []) ∙ omega (arith, are.control_count_is);
-            each_line = λ k line x below there block. end_kept old.list.items new.list.items old.wants.items new.wants.items lines k x (signal_edge line) grow (are.each_line k line x below there block);
+            each_line = λ k line x below there block. end_kept old.list.items new.list.items old.wants.items
+                new.wants.items lines k x (signal_edge line) grow (are.each_line k line x below there block);
             each_control = λ k x control below there feeds. elim (cases_lt k number) [
               | inl less ↦ end_later old.list.items new.list.items old.wants.items new.wants.items controls span k x (control_edge control k) grow (are.each_control k x control less there feeds)
               | inr past ↦
@@ -174,8 +213,14 @@ module _ (diagram : Diagram) (plan : Resolved) (times : Times) (firsts : List (L
             ];
             numbered = grow.numbered are.numbered;
             whole =
-                let left : controls_left diagram number ≡ controls_left diagram (number + 1) = controls_from diagram number b at ∙ ap (λ (es : List LatencyEdge). es ++ controls_left diagram (number + 1)) (no_edge number (asks_ever (row_of b.kind).timing.asks) b.enable none) in
-                ap (λ (xs : List Want). xs ++ flat_map (edge_wants diagram plan times firsts) (controls_left diagram (number + 1))) wants ∙ sym (ap (λ (es : List LatencyEdge). old.wants.items ++ flat_map (edge_wants diagram plan times firsts) es) left) ∙ are.whole;
+                let left : controls_left diagram number ≡ controls_left diagram (number + 1) =
+                controls_from diagram number b at
+                ∙ ap (λ (es : List LatencyEdge). es ++ controls_left diagram (number + 1))
+                (no_edge number (asks_ever (row_of b.kind).timing.asks) b.enable none) in
+                ap (λ (xs : List Want). xs ++ flat_map (edge_wants diagram plan times firsts)
+                (controls_left diagram (number + 1))) wants
+                ∙ sym (ap (λ (es : List LatencyEdge). old.wants.items
+                ++ flat_map (edge_wants diagram plan times firsts) es) left) ∙ are.whole;
             allowed = λ net words. subst (AreWants net) (sym wants) (are.allowed net words);
           }
 
@@ -183,7 +228,8 @@ module _ (diagram : Diagram) (plan : Resolved) (times : Times) (firsts : List (L
       having control some put = record {
         line_count_is = are.line_count_is;
         control_count_is = length-append controls (span ∷ []) ∙ omega (arith, are.control_count_is);
-        each_line = λ k line x below there block. end_kept old.list.items new.list.items old.wants.items new.wants.items lines k x (signal_edge line) put.grow (are.each_line k line x below there block);
+        each_line = λ k line x below there block. end_kept old.list.items new.list.items old.wants.items
+            new.wants.items lines k x (signal_edge line) put.grow (are.each_line k line x below there block);
         each_control = λ k x other below there feeds. elim (cases_lt k number) [
           | inl less ↦ end_later old.list.items new.list.items old.wants.items new.wants.items controls span k x (control_edge other k) put.grow (are.each_control k x other less there feeds)
           | inr past ↦
@@ -198,8 +244,15 @@ module _ (diagram : Diagram) (plan : Resolved) (times : Times) (firsts : List (L
         ];
         numbered = put.grow.numbered are.numbered;
         whole =
-            let left : controls_left diagram number ≡ control_edge control number ∷ controls_left diagram (number + 1) = controls_from diagram number b at ∙ ap (λ (es : List LatencyEdge). es ++ controls_left diagram (number + 1)) (one_edge number control (asks_ever (row_of b.kind).timing.asks) b.enable some) in
-            wants_left old.wants.items new.wants.items (control_edge control number) (controls_left diagram number) (controls_left diagram (number + 1)) (flat_map (edge_wants diagram plan times firsts) (latency_edges diagram)) left put.added are.whole;
+            let left : controls_left diagram number
+            ≡ control_edge control number ∷ controls_left diagram (number + 1) =
+            controls_from diagram number b at
+            ∙ ap (λ (es : List LatencyEdge). es ++ controls_left diagram (number + 1))
+            (one_edge number control (asks_ever (row_of b.kind).timing.asks) b.enable some) in
+            wants_left old.wants.items new.wants.items (control_edge control number) (controls_left diagram number)
+            (controls_left diagram (number + 1))
+            (flat_map (edge_wants diagram plan times firsts) (latency_edges diagram)) left put.added
+            are.whole;
         allowed = λ net words. put.allowed net words (are.allowed net words);
       }
 
@@ -210,7 +263,11 @@ module _ (diagram : Diagram) (plan : Resolved) (times : Times) (firsts : List (L
           go None e end = without e end.0 end.1
           go (Some control) e end = having control e end
 
-  pub controls_end : (asks : Asks) (lines controls : List Span) (lined number : ℕ) → number ≡ length diagram.blocks → AreEndsFor diagram plan times firsts asks lines controls lined number (controls_left diagram number) → AreEndsFor diagram plan times firsts asks lines controls lined (length diagram.blocks) []
+  pub controls_end : (asks : Asks) (lines controls : List Span) (lined number : ℕ) → number ≡ length diagram.blocks
+      → AreEndsFor diagram plan times firsts asks lines controls lined number (controls_left diagram number)
+      → AreEndsFor diagram plan times firsts asks lines controls lined (length diagram.blocks) []
   controls_end asks lines controls lined number here are =
       let none : controls_left diagram (length diagram.blocks) ≡ [] = ap (enable_edges_from (length diagram.blocks)) (drop_all (length diagram.blocks) diagram.blocks (omega arith)) in
-      subst (AreEndsFor diagram plan times firsts asks lines controls lined (length diagram.blocks)) none (subst (λ (n : ℕ). AreEndsFor diagram plan times firsts asks lines controls lined n (controls_left diagram n)) here are)
+      subst (AreEndsFor diagram plan times firsts asks lines controls lined (length diagram.blocks)) none
+      (subst (λ (n : ℕ). AreEndsFor diagram plan times firsts asks lines controls lined n
+      (controls_left diagram n)) here are)

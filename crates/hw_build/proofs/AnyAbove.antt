@@ -60,7 +60,13 @@ two_are a b read P p q is = elim (Contains-push_cases (a ∷ []) b read is) [
 
 -- ---- the first two nets
 
-module _ (before middle after : Circuit) (operands : List ℕ) (type : FxType) (is_type : IsType type) (zeroed : middle ≡ with_net before (record { signed = is_signed type; width = width_of type; kind = Comb (Const (pos 0)) [] }))
+module _ (before middle after : Circuit) (operands : List ℕ) (type : FxType) (is_type : IsType type)
+    (zeroed : middle ≡ with_net before (record {
+      signed = is_signed type;
+      width = width_of type;
+      kind =
+          Comb (Const (pos 0)) [];
+    }))
     (begun : after ≡ with_net middle (record { signed = false; width = 1; kind = Comb (Const (pos 0)) [] }))
   where
     none_there : (read : ℕ) → Contains [] read → read < length before.nets
@@ -75,24 +81,36 @@ module _ (before middle after : Circuit) (operands : List ℕ) (type : FxType) (
         record {
           grows =
               grows_then before middle after operands [] IsGate IsGate 0 0 (λ read is. absurd (omega (arith, is.1))) (λ kind is. is)
-              (grows_naming before middle [] operands IsGate 0 (none_named operands) (comb_grows before middle (Const (pos 0)) [] (is_signed type) (width_of type) IsGate zeroed (type-word type is_type) (refl, tt) none_there (λ e. cc)))
+              (grows_naming before middle [] operands IsGate 0 (none_named operands)
+              (comb_grows before middle (Const (pos 0)) [] (is_signed type) (width_of type) IsGate zeroed
+              (type-word type is_type) (refl, tt) none_there (λ e. cc)))
               (comb_grows middle after (Const (pos 0)) [] false 1 IsGate begun one_bit (refl, tt) (λ read is. absurd (omega (arith, is.1))) (λ e. cc));
           word = put_word middle after some_net begun;
           new = omega (arith, size);
           zero_new = omega arith;
           zero_inside = omega (arith, size, more);
           zeros = λ closed hubs small.
-              later_on closed closed hubs middle after (λ n rows. AreSame n (rows (length before.nets)) (steady (pos 0))) (omega arith) (goes_appended closed hubs middle after (put-extends middle after some_net begun))
+              later_on closed closed hubs middle after
+              (λ n rows. AreSame n (rows (length before.nets)) (steady (pos 0))) (omega arith)
+              (goes_appended closed hubs middle after (put-extends middle after some_net begun))
               (const_shows before middle type (pos 0) is_type (zero_range type is_type) zeroed closed hubs (length before.nets) refl small);
           tells = λ closed hubs small.
-              let shows = constant closed hubs after (length middle.nets) (pos 0) some_net (record { at = put-there middle after some_net begun; settled = inr (omega (arith, small, size)) }) refl one_bit (in_bit false) in
+              let shows = constant closed hubs after (length middle.nets) (pos 0) some_net
+              (record {
+                at = put-there middle after some_net begun;
+                settled =
+                    inr (omega (arith, small, size));
+              }) refl one_bit (in_bit false) in
               record { holds = λ later goes n inputs rows are. record { at = λ c below. (shows.holds later goes n inputs rows are).at c below } };
         }
 
 -- ---- one more operand
 
-module _ (a b c d : Circuit) (operands : List ℕ) (count zero_at some operand : ℕ) (there : All (λ operand. operand < length a.nets) operands) (is : slice_get operands count ≡ Some operand) (among : Contains operands operand) (any : PutsAny a b operands count zero_at some)
-    (tested : c ≡ with_net b (record { signed = false; width = 1; kind = Comb Less (zero_at ∷ operand ∷ []) })) (joined : d ≡ with_net c (record { signed = false; width = 1; kind = Comb Or (some ∷ length b.nets ∷ []) }))
+module _ (a b c d : Circuit) (operands : List ℕ) (count zero_at some operand : ℕ)
+    (there : All (λ operand. operand < length a.nets) operands) (is : slice_get operands count ≡ Some operand)
+    (among : Contains operands operand) (any : PutsAny a b operands count zero_at some)
+    (tested : c ≡ with_net b (record { signed = false; width = 1; kind = Comb Less (zero_at ∷ operand ∷ []) }))
+    (joined : d ≡ with_net c (record { signed = false; width = 1; kind = Comb Or (some ∷ length b.nets ∷ []) }))
   where
     pub any_next : PutsAny a d operands (suc count) zero_at (length c.nets)
     any_next =
@@ -106,12 +124,23 @@ module _ (a b c d : Circuit) (operands : List ℕ) (count zero_at some operand :
         let new = any.new in
         let some_inside = slice_get_within b.nets some any.word.net any.word.is in
         let low = All-contains (λ (x : ℕ). x < length a.nets) operands operand there among in
-        let one : Grows b c (zero_at ∷ operand ∷ []) IsGate 0 = comb_grows b c Less (zero_at ∷ operand ∷ []) false 1 IsGate tested one_bit (refl, tt) (λ read names. two_are zero_at operand read (λ (x : ℕ). x < length b.nets) inside (omega (arith, low, old)) names) (λ e. cc) in
-        let two : Grows c d (some ∷ length b.nets ∷ []) IsGate 0 = comb_grows c d Or (some ∷ length b.nets ∷ []) false 1 IsGate joined one_bit (refl, tt) (λ read names. two_are some (length b.nets) read (λ (x : ℕ). x < length c.nets) (omega (arith, some_inside, size)) (omega (arith, size)) names) (λ e. cc) in
-        let up_to : Grows a c operands IsGate 0 = grows_then a b c operands (zero_at ∷ operand ∷ []) IsGate IsGate 0 0 (λ read names. two_are zero_at operand read (IsNamed a b operands) (inr (zero_new, inside)) (inl among) names) (λ kind gate. gate) any.grows one in
+        let one : Grows b c (zero_at ∷ operand ∷ []) IsGate 0 =
+        comb_grows b c Less (zero_at ∷ operand ∷ []) false 1 IsGate tested one_bit (refl, tt)
+        (λ read names. two_are zero_at operand read (λ (x : ℕ). x < length b.nets) inside
+        (omega (arith, low, old)) names) (λ e. cc) in
+        let two : Grows c d (some ∷ length b.nets ∷ []) IsGate 0 =
+        comb_grows c d Or (some ∷ length b.nets ∷ []) false 1 IsGate joined one_bit (refl, tt)
+        (λ read names. two_are some (length b.nets) read (λ (x : ℕ). x < length c.nets)
+        (omega (arith, some_inside, size)) (omega (arith, size)) names) (λ e. cc) in
+        let up_to : Grows a c operands IsGate 0 =
+        grows_then a b c operands (zero_at ∷ operand ∷ []) IsGate IsGate 0 0
+        (λ read names. two_are zero_at operand read (IsNamed a b operands) (inr (zero_new, inside))
+        (inl among) names) (λ kind gate. gate) any.grows one in
         record {
           grows = grows_then a c d operands (some ∷ length b.nets ∷ []) IsGate IsGate 0 0
-              (λ read names. two_are some (length b.nets) read (IsNamed a c operands) (inr (new, omega (arith, some_inside, size))) (inr (old, omega (arith, size))) names) (λ kind gate. gate) up_to two;
+              (λ read names. two_are some (length b.nets) read (IsNamed a c operands)
+              (inr (new, omega (arith, some_inside, size))) (inr (old, omega (arith, size))) names)
+              (λ kind gate. gate) up_to two;
           word = put_word c d join joined;
           new = omega (arith, old, size);
           zero_new = zero_new;
@@ -119,11 +148,18 @@ module _ (a b c d : Circuit) (operands : List ℕ) (count zero_at some operand :
           zeros = λ closed hubs small.
               later_on closed closed hubs b d (λ n rows. AreSame n (rows zero_at) (steady (pos 0))) (omega arith) (goes_to closed hubs) (any.zeros closed hubs small);
           tells = λ closed hubs small.
-              let zeros = later_on closed closed hubs b c (λ n rows. AreSame n (rows zero_at) (steady (pos 0))) (omega arith) (goes_appended closed hubs b c (put-extends b c test tested)) (any.zeros closed hubs small) in
+              let zeros = later_on closed closed hubs b c (λ n rows. AreSame n (rows zero_at) (steady (pos 0)))
+              (omega arith) (goes_appended closed hubs b c (put-extends b c test tested))
+              (any.zeros closed hubs small) in
               let above = above_shows closed hubs c (length b.nets) zero_at operand test (record { at = put-there b c test tested; settled = inr (omega (arith, small, old)) }) refl refl refl zeros in
-              let above_d = later_on closed closed hubs c d (λ n rows. Tells n (λ clock. int_lt (pos 0) (rows operand clock)) (rows (length b.nets))) (omega arith) (goes_appended closed hubs c d (put-extends c d join joined)) above in
+              let above_d = later_on closed closed hubs c d
+              (λ n rows. Tells n (λ clock. int_lt (pos 0) (rows operand clock)) (rows (length b.nets)))
+              (omega arith) (goes_appended closed hubs c d (put-extends c d join joined)) above in
               let before_d = later_on closed closed hubs b d (λ n rows. Tells n (any_above (take count operands) rows) (rows some)) (omega arith) (goes_to closed hubs) (any.tells closed hubs small) in
-              let either = either_shows closed hubs d (length c.nets) some (length b.nets) join (any_above (take count operands)) (λ rows clock. int_lt (pos 0) (rows operand clock)) (record { at = put-there c d join joined; settled = inr (omega (arith, small, old, size)) }) refl refl refl before_d above_d in
+              let either = either_shows closed hubs d (length c.nets) some (length b.nets) join
+              (any_above (take count operands)) (λ rows clock. int_lt (pos 0) (rows operand clock))
+              (record { at = put-there c d join joined; settled = inr (omega (arith, small, old, size)) })
+              refl refl refl before_d above_d in
               record {
                 holds = λ later goes n inputs rows are. record {
                   at = λ clock below. (either.holds later goes n inputs rows are).at clock below ∙ ap stored_truth (sym (any_more (λ k. int_lt (pos 0) (rows k clock)) operands count operand is));

@@ -15,9 +15,14 @@ use Rattle.hw_build.specs.inner.HubPlaces.{before, is_input_role, own_hubs, port
 use Rattle.hw_build.proofs.HubsOnly.{owner_is, place_other, place_input}
 use Rattle.std.proofs.lemmas.Bool.{cases_Bool}
 
-module _ (diagram : Diagram) (order : List ℕ) (earlier later : Circuit) (firsts : List (List ℕ)) (has : HasHubs diagram earlier later firsts) (listed : InputsAreListed) (valid : TypesAreValid) (ordered : IsOrdered diagram order) where
+module _ (diagram : Diagram) (order : List ℕ) (earlier later : Circuit) (firsts : List (List ℕ))
+    (has : HasHubs diagram earlier later firsts) (listed : InputsAreListed) (valid : TypesAreValid)
+    (ordered : IsOrdered diagram order) where
   -- of blocks that are no root inputs
-  same_block : (block : ℕ) (b : Block) (port element : ℕ) (other : ℕ) (q : Block) (outer member : ℕ) → IsShown diagram (attributes_of diagram) block b port element → IsShown diagram (attributes_of diagram) other q outer member → is_input_role (row_of b.kind).place.role ≡ false → is_input_role (row_of q.kind).place.role ≡ false
+  same_block : (block : ℕ) (b : Block) (port element : ℕ) (other : ℕ) (q : Block) (outer member : ℕ)
+      → IsShown diagram (attributes_of diagram) block b port element
+      → IsShown diagram (attributes_of diagram) other q outer member
+      → is_input_role (row_of b.kind).place.role ≡ false → is_input_role (row_of q.kind).place.role ≡ false
       → hub_at firsts other outer member ≡ hub_at firsts block port element → block ≡ other
   same_block block b port element other q outer member shown also is_other is_too same =
       let one = place_other diagram earlier later firsts has block b port element shown is_other in
@@ -27,11 +32,18 @@ module _ (diagram : Diagram) (order : List ℕ) (earlier later : Circuit) (first
       let low_too = two.0 in
       let high_too = two.1 in
       let roots : ℕ = length (root_inputs diagram (attributes_of diagram)) in
-      sym (owner_is (own_hubs diagram) (length diagram.blocks) block (hub_at firsts block port element - roots) (slice_get_within diagram.blocks block b shown.block_is) (omega (arith, low)) (omega (arith, low, high)))
-      ∙ owner_is (own_hubs diagram) (length diagram.blocks) other (hub_at firsts block port element - roots) (slice_get_within diagram.blocks other q also.block_is) (omega (arith, low_too, same)) (omega (arith, low_too, high_too, same))
+      sym (owner_is (own_hubs diagram) (length diagram.blocks) block (hub_at firsts block port element - roots)
+      (slice_get_within diagram.blocks block b shown.block_is) (omega (arith, low)) (omega (arith, low, high)))
+      ∙ owner_is (own_hubs diagram) (length diagram.blocks) other (hub_at firsts block port element - roots)
+      (slice_get_within diagram.blocks other q also.block_is) (omega (arith, low_too, same))
+      (omega (arith, low_too, high_too, same))
 
   -- of one block
-  same_element : (block : ℕ) (b : Block) (port element outer member : ℕ) → IsShown diagram (attributes_of diagram) block b port element → IsShown diagram (attributes_of diagram) block b outer member → is_input_role (row_of b.kind).place.role ≡ false → hub_at firsts block outer member ≡ hub_at firsts block port element
+  same_element : (block : ℕ) (b : Block) (port element outer member : ℕ)
+      → IsShown diagram (attributes_of diagram) block b port element
+      → IsShown diagram (attributes_of diagram) block b outer member
+      → is_input_role (row_of b.kind).place.role ≡ false
+      → hub_at firsts block outer member ≡ hub_at firsts block port element
       → (port ≡ outer) × (element ≡ member)
   same_element block b port element outer member shown also is_other same =
       let size : ℕ → ℕ = port_size diagram block b in
@@ -59,7 +71,11 @@ module _ (diagram : Diagram) (order : List ℕ) (earlier later : Circuit) (first
       let starts : before size (port - 1) ≡ before size (outer - 1) = ap (before size) ports in
       (omega (arith, ports, from, from_too), omega (arith, flat, starts))
 
-  pub one_hub : (block : ℕ) (b : Block) (port element : ℕ) (other : ℕ) (q : Block) (outer member : ℕ) → IsShown diagram (attributes_of diagram) block b port element → IsShown diagram (attributes_of diagram) other q outer member → is_input_role (row_of b.kind).place.role ≡ false → hub_at firsts other outer member ≡ hub_at firsts block port element
+  pub one_hub : (block : ℕ) (b : Block) (port element : ℕ) (other : ℕ) (q : Block) (outer member : ℕ)
+      → IsShown diagram (attributes_of diagram) block b port element
+      → IsShown diagram (attributes_of diagram) other q outer member
+      → is_input_role (row_of b.kind).place.role ≡ false
+      → hub_at firsts other outer member ≡ hub_at firsts block port element
       → (block ≡ other) × (port ≡ outer) × (element ≡ member)
   one_hub block b port element other q outer member shown also is_other same = elim (cases_Bool (is_input_role (row_of q.kind).place.role)) [
     | inl input ↦
@@ -72,7 +88,9 @@ module _ (diagram : Diagram) (order : List ℕ) (earlier later : Circuit) (first
     | inr too ↦
         let blocks : block ≡ other = same_block block b port element other q outer member shown also is_other too same in
         let own : ◌≡◌ {A = Block} q b = same_Some q b (sym also.block_is ∙ ap (slice_get diagram.blocks) (sym blocks) ∙ shown.block_is) in
-        let here : IsShown diagram (attributes_of diagram) block b outer member = subst (λ (x : ℕ). IsShown diagram (attributes_of diagram) x b outer member) (sym blocks) (subst (λ (y : Block). IsShown diagram (attributes_of diagram) other y outer member) own also) in
+        let here : IsShown diagram (attributes_of diagram) block b outer member =
+        subst (λ (x : ℕ). IsShown diagram (attributes_of diagram) x b outer member) (sym blocks)
+        (subst (λ (y : Block). IsShown diagram (attributes_of diagram) other y outer member) own also) in
         let parts = same_element block b port element outer member shown here is_other (ap (λ (x : ℕ). hub_at firsts x outer member) blocks ∙ same) in
         (blocks, parts.0, parts.1)
   ]

@@ -44,7 +44,9 @@ asks_now old new wants hub grown = record {
   allowed = λ net one are. are;
 }
 
-pub asks_later : (old new : List Ask) (wants more : List Want) (number : ℕ) (want : Want) → number ≡ length wants → new ≡ old ++ (record { hub = want.feed.hub; want = Some number }) ∷ [] → more ≡ wants ++ want ∷ [] → AsksOne old new wants more want.feed.hub (Some want)
+pub asks_later : (old new : List Ask) (wants more : List Want) (number : ℕ) (want : Want) → number ≡ length wants
+    → new ≡ old ++ (record { hub = want.feed.hub; want = Some number }) ∷ [] → more ≡ wants ++ want ∷ []
+    → AsksOne old new wants more want.feed.hub (Some want)
 asks_later old new wants more number want place grown added =
     let one : Ask = record { hub = want.feed.hub; want = Some number } in
     let longer : length more ≡ length wants + 1 = ap length added ∙ length-append wants (want ∷ []) in
@@ -73,7 +75,9 @@ asks_later old new wants more number want place grown added =
 
 -- ---- all elements of an end
 
-wanted_later : (wants more : List Want) (number : Option ℕ) (want : Option Want) → ((k : ℕ) (w : Want) → slice_get wants k ≡ Some w → slice_get more k ≡ Some w) → IsWanted wants number want → IsWanted more number want
+wanted_later : (wants more : List Want) (number : Option ℕ) (want : Option Want)
+    → ((k : ℕ) (w : Want) → slice_get wants k ≡ Some w → slice_get more k ≡ Some w) → IsWanted wants number want
+    → IsWanted more number want
 wanted_later wants more None None stay is = tt
 wanted_later wants more None (Some want) stay is = absurd is
 wanted_later wants more (Some number) None stay is = absurd is
@@ -94,7 +98,9 @@ grow_then a b c u v w one two = record {
   numbered = λ are. two.numbered (one.numbered are);
 }
 
-pub asks_more : (old mid new : List Ask) (wants some more : List Want) (hubs : ℕ → ℕ) (asked : ℕ → Option Want) (count : ℕ) → AsksAll old mid wants some hubs asked count → AsksOne mid new some more (hubs count) (asked count) → AsksAll old new wants more hubs asked (count + 1)
+pub asks_more : (old mid new : List Ask) (wants some more : List Want) (hubs : ℕ → ℕ) (asked : ℕ → Option Want)
+    (count : ℕ) → AsksAll old mid wants some hubs asked count → AsksOne mid new some more (hubs count) (asked count)
+    → AsksAll old new wants more hubs asked (count + 1)
 asks_more old mid new wants some more hubs asked count all one = record {
   grow = grow_then old mid new wants some more all.grow one.grow;
   count_is = omega (arith, all.count_is, one.count);
@@ -106,13 +112,20 @@ asks_more old mid new wants some more hubs asked count all one = record {
   ];
   added_all =
       let next : suc count ≡ count + 1 = omega arith in
-      one.added ∙ ap (λ (xs : List Want). xs ++ want_list (asked count)) all.added_all ∙ append_assoc wants (wants_below asked count) (want_list (asked count)) ∙ ap (λ (n : ℕ). wants ++ wants_below asked n) next;
+      one.added ∙ ap (λ (xs : List Want). xs ++ want_list (asked count)) all.added_all
+      ∙ append_assoc wants (wants_below asked count) (want_list (asked count))
+      ∙ ap (λ (n : ℕ). wants ++ wants_below asked n) next;
   allowed = λ net may are. one.allowed net (may count (omega arith)) (all.allowed net (λ element below. may element (omega (arith, below))) are);
 }
 
 -- one for an element of a block, by the numbers that the code finds
-pub late_one : (old new : List Ask) (wants more : List Want) (diagram : Diagram) (block first width element place : ℕ) (v : ℤ) (frame : Frame) (to : Use) → place ≡ repeated width element → v ≡ first_at diagram block element
-    → AsksOne old new wants more (first + place) (Some (record { feed = record { hub = first + place; frame = frame; first = Some v }; to = to })) → AsksOne old new wants more (hub_spread first width element) (late_want diagram block first width frame to element)
+pub late_one : (old new : List Ask) (wants more : List Want) (diagram : Diagram)
+    (block first width element place : ℕ) (v : ℤ) (frame : Frame) (to : Use) → place ≡ repeated width element
+    → v ≡ first_at diagram block element
+    → AsksOne old new wants more (first + place)
+    (Some (record { feed = record { hub = first + place; frame = frame; first = Some v }; to = to }))
+    → AsksOne old new wants more (hub_spread first width element)
+    (late_want diagram block first width frame to element)
 late_one old new wants more diagram block first width element place v frame to at is one =
     subst (λ (n : ℕ). AsksOne old new wants more (first + n) (Some (record { feed = record { hub = first + n; frame = frame; first = Some (first_at diagram block element) }; to = to }))) at
     (subst (λ (x : ℤ). AsksOne old new wants more (first + place) (Some (record { feed = record { hub = first + place; frame = frame; first = Some x }; to = to }))) is one)
@@ -120,7 +133,9 @@ late_one old new wants more diagram block first width element place v frame to a
 -- ---- their nets
 
 -- what holds of what stands at the same places of two lists, with one more in the second
-pub each_more : {A B : Type 0} (P : A → B → Type 0) (xs : List A) (ys : List B) (x : A) (y : B) → slice_get xs (length ys) ≡ Some x → P x y → ((k : ℕ) (a : A) (b : B) → slice_get xs k ≡ Some a → slice_get ys k ≡ Some b → P a b)
+pub each_more : {A B : Type 0} (P : A → B → Type 0) (xs : List A) (ys : List B) (x : A) (y : B)
+    → slice_get xs (length ys) ≡ Some x → P x y
+    → ((k : ℕ) (a : A) (b : B) → slice_get xs k ≡ Some a → slice_get ys k ≡ Some b → P a b)
     → (k : ℕ) (a : A) (b : B) → slice_get xs k ≡ Some a → slice_get (ys ++ y ∷ []) k ≡ Some b → P a b
 each_more {A = A} P xs ys x y at is before k a b here there = elim (split-last ys y b k there) [
   | inl front ↦ before k a b here front.1
@@ -130,7 +145,9 @@ each_more {A = A} P xs ys x y at is before k a b here there = elim (split-last y
       subst (λ (p : A). P p b) same (subst (P x) last.1 is)
 ]
 
-pub nets_more : (list : List Ask) (numbers nets : List ℕ) (count net : ℕ) (ask : Ask) → AreNets list numbers nets count → slice_get list count ≡ Some ask → IsNetFor numbers net ask.hub ask.want → AreNets list numbers (nets ++ net ∷ []) (count + 1)
+pub nets_more : (list : List Ask) (numbers nets : List ℕ) (count net : ℕ) (ask : Ask)
+    → AreNets list numbers nets count → slice_get list count ≡ Some ask → IsNetFor numbers net ask.hub ask.want
+    → AreNets list numbers (nets ++ net ∷ []) (count + 1)
 nets_more list numbers nets count net ask are at is = record {
   size = length-append nets (net ∷ []) ∙ omega (arith, are.size);
   each = each_more (λ (a : Ask) (n : ℕ). IsNetFor numbers n a.hub a.want) list nets ask net (ap (slice_get list) are.size ∙ at) is are.each;
@@ -147,17 +164,23 @@ pub record IsWantAt (wants : List Want) (numbers : List ℕ) (want : Want) (net 
   pub at : slice_get wants place ≡ Some want
   pub answer : slice_get numbers place ≡ Some net
 
-net_late : (wants : List Want) (numbers : List ℕ) (net hub : ℕ) (number : Option ℕ) (want : Want) → IsWanted wants number (Some want) → IsNetFor numbers net hub number → IsWantAt wants numbers want net
+net_late : (wants : List Want) (numbers : List ℕ) (net hub : ℕ) (number : Option ℕ) (want : Want)
+    → IsWanted wants number (Some want) → IsNetFor numbers net hub number → IsWantAt wants numbers want net
 net_late wants numbers net hub None want wanted is = absurd wanted
 net_late wants numbers net hub (Some number) want wanted is = record { place = number; at = wanted; answer = is }
 
-module _ (diagram : Diagram) (timing : Timing) (list : List Ask) (wants : List Want) (numbers nets : List ℕ) (are : AreNets list numbers nets (length list)) (block : ℕ) (b : Block) (target : Target) (from : ℕ) (first : ℤ) (hub place net : ℕ) (at : slice_get nets place ≡ Some net) where
+module _ (diagram : Diagram) (timing : Timing) (list : List Ask) (wants : List Want) (numbers nets : List ℕ)
+    (are : AreNets list numbers nets (length list)) (block : ℕ) (b : Block) (target : Target) (from : ℕ) (first : ℤ)
+    (hub place net : ℕ) (at : slice_get nets place ≡ Some net) where
   -- the end of a line from a source that never changes
   pub still_asked : IsAskOf list wants place hub None → (attributes_of diagram).period_at from ≡ None → IsAsk diagram timing wants numbers block b target from first hub net
   still_asked is still = inl (still, net_still wants numbers net is.ask.hub is.ask.want is.wanted (are.each place is.ask net is.is at) ∙ is.hub_is)
 
   -- of one that does
-  pub late_asked : (p : ℕ) (want : Want) → IsAskOf list wants place hub (Some want) → (attributes_of diagram).period_at from ≡ Some p → IsEndWant diagram timing block b target from p first hub want → IsAsk diagram timing wants numbers block b target from first hub net
+  pub late_asked : (p : ℕ) (want : Want) → IsAskOf list wants place hub (Some want)
+      → (attributes_of diagram).period_at from ≡ Some p
+      → IsEndWant diagram timing block b target from p first hub want
+      → IsAsk diagram timing wants numbers block b target from first hub net
   late_asked p want is moves wanted =
       let late = net_late wants numbers net is.ask.hub is.ask.want want is.wanted (are.each place is.ask net is.is at) in
       inr (record { p = p; moves = moves; place = late.place; want = want; at = late.at; answer = late.answer; is = wanted })

@@ -39,7 +39,8 @@ same_source width own element (inr same) below = elim (cases_Bool (width == 1)) 
 ]
 
 -- only an end with registers has a first number
-other_first : (n : ℕ) (timing : Timing) (from block : ℕ) (source own : Option ℕ) (lags : ℕ → Option ℕ) (first other : ℤ) (wave line : Wave) → ((p lag : ℕ) → source ≡ Some p → lags p ≡ Some lag → first ≡ other)
+other_first : (n : ℕ) (timing : Timing) (from block : ℕ) (source own : Option ℕ) (lags : ℕ → Option ℕ)
+    (first other : ℤ) (wave line : Wave) → ((p lag : ℕ) → source ≡ Some p → lags p ≡ Some lag → first ≡ other)
     → IsOffered n timing from source block own lags first wave line → IsOffered n timing from source block own lags other wave line
 other_first n timing from block None own lags first other wave line same is = is
 other_first n timing from block (Some p) None lags first other wave line same is = is
@@ -71,11 +72,17 @@ counted source own lags (Some p) some wide = go (lags p) refl
       late = λ q other is h. ap (count_by_lag source own) e;
     }
 
-module _ (diagram : Diagram) (timing : Timing) (places : Places) (closed hubs : ℕ) (now : Circuit) (wide : LateAreWide diagram) (spread : AreSpread diagram places) (lines : HaveLines diagram timing places closed hubs now) where
+module _ (diagram : Diagram) (timing : Timing) (places : Places) (closed hubs : ℕ) (now : Circuit)
+    (wide : LateAreWide diagram) (spread : AreSpread diagram places)
+    (lines : HaveLines diagram timing places closed hubs now) where
   -- what each number of an element is offered
-  pub all_lines : (block : ℕ) (b : Block) (port element : ℕ) (edge : Edge) → slice_get diagram.blocks block ≡ Some b → 1 ≤ shown_ports b.kind b.outputs → 1 ≤ port → port ≤ b.inputs → driver_of diagram block port ≡ Some edge
+  pub all_lines : (block : ℕ) (b : Block) (port element : ℕ) (edge : Edge) → slice_get diagram.blocks block ≡ Some b
+      → 1 ≤ shown_ports b.kind b.outputs → 1 ≤ port → port ≤ b.inputs → driver_of diagram block port ≡ Some edge
       → repeated ((attributes_of diagram).width_at edge.from edge.from_port) element < (attributes_of diagram).width_at edge.from edge.from_port
-      → IsOfferedBy diagram timing places closed hubs now block b (Port port) edge.from (places.first block element) (places.after edge.from edge.from_port (repeated ((attributes_of diagram).width_at edge.from edge.from_port) element)) (places.offered block port element)
+      → IsOfferedBy diagram timing places closed hubs now block b (Port port) edge.from (places.first block element)
+      (places.after edge.from edge.from_port
+      (repeated ((attributes_of diagram).width_at edge.from edge.from_port) element))
+      (places.offered block port element)
   all_lines block b port element edge at showing from to drives below =
       let source : ℕ = (attributes_of diagram).width_at edge.from edge.from_port in
       let own : ℕ = (attributes_of diagram).width_at block 1 in
@@ -90,19 +97,32 @@ module _ (diagram : Diagram) (timing : Timing) (places : Places) (closed hubs : 
       record {
         holds = λ later goes n inputs rows is.
             let here = fact.holds later goes n inputs rows is in
-            let first = other_first n timing edge.from block period ((attributes_of diagram).period_at block) lags (places.first block last) (places.first block element) (rows (places.after edge.from edge.from_port (repeated source last))) (rows (places.offered block port last))
+            let first = other_first n timing edge.from block period ((attributes_of diagram).period_at block) lags
+            (places.first block last) (places.first block element)
+            (rows (places.after edge.from edge.from_port (repeated source last)))
+            (rows (places.offered block port last))
             (λ p lag e h. sym (spread.first block element ∙ ap (λ (w : ℕ). places.first block (min element (w - 1))) (sym (count.late p lag e h)))) here in
-            subst (λ (k : ℕ). IsOffered n timing edge.from period block ((attributes_of diagram).period_at block) lags (places.first block element) (rows (places.after edge.from edge.from_port (repeated source element))) (rows k)) (sym net)
-            (subst (λ (e : ℕ). IsOffered n timing edge.from period block ((attributes_of diagram).period_at block) lags (places.first block element) (rows (places.after edge.from edge.from_port e)) (rows (places.offered block port last))) (sym hub) first);
+            subst (λ (k : ℕ). IsOffered n timing edge.from period block
+            ((attributes_of diagram).period_at block) lags (places.first block element)
+            (rows (places.after edge.from edge.from_port (repeated source element))) (rows k)) (sym net)
+            (subst (λ (e : ℕ). IsOffered n timing edge.from period block
+            ((attributes_of diagram).period_at block) lags (places.first block element)
+            (rows (places.after edge.from edge.from_port e)) (rows (places.offered block port last)))
+            (sym hub) first);
       }
 
 -- the waves of the rows of a netlist with all its facts
-pub facts_build : (diagram : Diagram) (timing : Timing) (places : Places) (hubs : ℕ) (now : Circuit) → LateAreWide diagram → HaveFacts diagram timing places hubs hubs now (length diagram.blocks) → (n : ℕ) (inputs : Inputs) (rows : Rows) → NetRows now n inputs rows
+pub facts_build : (diagram : Diagram) (timing : Timing) (places : Places) (hubs : ℕ) (now : Circuit)
+    → LateAreWide diagram → HaveFacts diagram timing places hubs hubs now (length diagram.blocks)
+    → (n : ℕ) (inputs : Inputs) (rows : Rows) → NetRows now n inputs rows
     → AreBuilt diagram (attributes_of diagram) timing n (waves_of places rows)
 facts_build diagram timing places hubs now wide facts n inputs rows is = record {
   lines = λ block b port element edge at showing from to drives below.
       (all_lines diagram timing places hubs hubs now wide facts.spread facts.lines block b port element edge at showing from to drives below).holds now (goes_same hubs hubs now) n inputs rows is;
   enables = λ block b control at feeds. (facts.enables.each block b control at feeds).holds now (goes_same hubs hubs now) n inputs rows is;
   blocks = λ block b port element shown. (facts.elements.made block b port element (slice_get_within diagram.blocks block b shown.block_is) shown).holds now (goes_same hubs hubs now) n inputs rows is;
-  pipelines = λ block b port element shown. (facts.elements.piped block b port element (slice_get_within diagram.blocks block b shown.block_is) shown).holds now (goes_same hubs hubs now) n inputs rows is;
+  pipelines = λ block b port element shown.
+      (facts.elements.piped block b port element
+      (slice_get_within diagram.blocks block b shown.block_is) shown).holds now
+      (goes_same hubs hubs now) n inputs rows is;
 }

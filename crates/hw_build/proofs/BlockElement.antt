@@ -46,7 +46,9 @@ use Rattle.hw_build.proofs.FirstValues.{first_stores}
 use Rattle.hw_build.proofs.Widths.{late_are_wide}
 
 -- a block that multiplies has one port, and shows there as many elements as it has
-multiplied_below : (diagram : Diagram) (block : ℕ) (inputs outputs port element : ℕ) (kind : Kind) → (row_of kind).hardware.multiplies ≡ true → HasPorts kind inputs outputs → 1 ≤ port → port ≤ shown_ports kind outputs → element < shown_width diagram (attributes_of diagram) kind block port
+multiplied_below : (diagram : Diagram) (block : ℕ) (inputs outputs port element : ℕ) (kind : Kind)
+    → (row_of kind).hardware.multiplies ≡ true → HasPorts kind inputs outputs → 1 ≤ port
+    → port ≤ shown_ports kind outputs → element < shown_width diagram (attributes_of diagram) kind block port
     → element < (attributes_of diagram).width_at block 1
 multiplied_below diagram block inputs outputs port element (Gain value param) is ports from to below =
     let one = ports.1 in
@@ -58,7 +60,10 @@ multiplied_below diagram block inputs outputs port element Product is ports from
     subst (λ (p : ℕ). element < (attributes_of diagram).width_at block p) first below
 multiplied_below diagram block inputs outputs port element _ is ports from to below = absurd (false≢true is)
 
-module _ (setting : Setting) (known : IsKnown setting) (before : Circuit) (going : Stands setting before) (block : ℕ) (b : Block) (port element : ℕ) (shown : IsShown setting.design.checked.now.diagram (attributes_of setting.design.checked.now.diagram) block b port element) where
+module _ (setting : Setting) (known : IsKnown setting) (before : Circuit) (going : Stands setting before)
+    (block : ℕ) (b : Block) (port element : ℕ)
+    (shown : IsShown setting.design.checked.now.diagram
+    (attributes_of setting.design.checked.now.diagram) block b port element) where
   abbrev pub drawn : Diagram
   drawn = setting.design.checked.now.diagram
 
@@ -102,13 +107,17 @@ module _ (setting : Setting) (known : IsKnown setting) (before : Circuit) (going
 
   pub unshared_is : product_at setting.products.now block element ≡ None → is_shared drawn (attributes_of drawn) setting.design.plan.now block ≡ false
   unshared_is none = elim (cases_Bool (is_shared drawn (attributes_of drawn) setting.design.plan.now block)) [
-    | inl shared ↦ absurd (none-some (product_net setting.products.now block element) (sym none ∙ known.set.products_are.shared block element inside shared (product_below (shared_multiplies drawn setting.design.plan.now block b shown.block_is shared))))
+    | inl shared ↦ absurd (none-some (product_net setting.products.now block element)
+        (sym none ∙ known.set.products_are.shared block element inside shared
+        (product_below (shared_multiplies drawn setting.design.plan.now block b shown.block_is shared))))
     | inr other ↦ other
   ]
 
   -- ---- what registers have first
 
-  below_one : (kind : Kind) → b.kind ≡ kind → shown_ports kind b.outputs ≡ 1 → ((p : ℕ) → shown_width drawn (attributes_of drawn) kind block p ≡ (attributes_of drawn).width_at block p) → element < (attributes_of drawn).width_at block 1
+  below_one : (kind : Kind) → b.kind ≡ kind → shown_ports kind b.outputs ≡ 1
+      → ((p : ℕ) → shown_width drawn (attributes_of drawn) kind block p ≡ (attributes_of drawn).width_at block p)
+      → element < (attributes_of drawn).width_at block 1
   below_one kind is one plain =
       let from = shown.port_from in
       let to : port ≤ shown_ports kind b.outputs = subst (λ (k : Kind). port ≤ shown_ports k b.outputs) is shown.port_to in
@@ -116,12 +125,17 @@ module _ (setting : Setting) (known : IsKnown setting) (before : Circuit) (going
       let below : element < shown_width drawn (attributes_of drawn) kind block port = subst (λ (k : Kind). element < shown_width drawn (attributes_of drawn) k block port) is shown.element_below in
       subst (λ (p : ℕ). element < (attributes_of drawn).width_at block p) first (subst (λ (n : ℕ). element < n) (plain port) below)
 
-  first_by : (kind : Kind) (list : List Decimal) → b.kind ≡ kind → (row_of kind).signal.lists ≡ list ∷ [] → shown_ports kind b.outputs ≡ 1 → ((p : ℕ) → shown_width drawn (attributes_of drawn) kind block p ≡ (attributes_of drawn).width_at block p)
+  first_by : (kind : Kind) (list : List Decimal) → b.kind ≡ kind → (row_of kind).signal.lists ≡ list ∷ []
+      → shown_ports kind b.outputs ≡ 1 → ((p : ℕ)
+      → shown_width drawn (attributes_of drawn) kind block p ≡ (attributes_of drawn).width_at block p)
       → StoresEntry list element ((attributes_of drawn).type_at block 1) (first_at drawn block element)
   first_by kind list is lists one plain =
       let own : (row_of b.kind).signal.lists ≡ list ∷ [] = ap (λ (k : Kind). (row_of k).signal.lists) is ∙ lists in
       first_stores known.storing drawn block b element list shown.block_is (below_one kind is one plain) own
-      (subst (λ (all : List (List Decimal)). All (λ (l : List Decimal). IsRepeated ((attributes_of drawn).width_at block 1) (length l)) all) own (known.fit drawn setting.design.checked.now.order block b known.ordered shown.block_is).1 0 [] (omega arith))
+      (subst (λ (all : List (List Decimal)). All
+      (λ (l : List Decimal). IsRepeated ((attributes_of drawn).width_at block 1) (length l)) all) own
+      (known.fit drawn setting.design.checked.now.order block b known.ordered shown.block_is).1 0 []
+      (omega arith))
       (known.valid drawn setting.design.checked.now.order block b known.ordered shown.block_is).0
 
   first_is : (kind : Kind) → b.kind ≡ kind → HasFirst drawn block element kind (first_at drawn block element)
@@ -133,34 +147,48 @@ module _ (setting : Setting) (known : IsKnown setting) (before : Circuit) (going
   -- ---- what its ends offer
 
   module _ (operands : List ℕ) (other : is_input_role (row_of b.kind).place.role ≡ false) (offer : Offer setting block b port element operands) where
-    module _ (places : Places) (fits : Fits setting places) (closed : ℕ) (now : Circuit) (level : ℕ → ℕ) (way : IsUnderWay drawn (timing_for setting.design) places rank closed (hubs_in_all drawn) now level 0) where
+    module _ (places : Places) (fits : Fits setting places) (closed : ℕ) (now : Circuit) (level : ℕ → ℕ)
+        (way : IsUnderWay drawn (timing_for setting.design) places rank closed
+        (hubs_in_all drawn) now level 0) where
       abbrev IsOne : FxType → ℕ → Type 0
       IsOne = IsOperand drawn places rank (hubs_in_all drawn) now level known.ordered.checked wide_are way.facts.spread way.operands block b shown.block_is showing
 
       each_is : AreEach IsOne (operand_types drawn (attributes_of drawn) block b port b.kind) operands
       each_is =
           let fit = known.fit drawn setting.design.checked.now.order block b known.ordered shown.block_is in
-          operands_are drawn places rank (hubs_in_all drawn) now level known.ordered.checked wide_are way.facts.spread way.operands block b shown.block_is showing port element shown.port_from shown.port_to shown.element_below ports_are b.kind operands refl other fit.0 fit.2 (offer places fits)
+          operands_are drawn places rank (hubs_in_all drawn) now level known.ordered.checked wide_are
+          way.facts.spread way.operands block b shown.block_is showing port element shown.port_from
+          shown.port_to shown.element_below ports_are b.kind operands refl other fit.0 fit.2
+          (offer places fits)
 
       there : (read : ℕ) → Contains operands read → read < length now.nets
-      there = operands_there drawn places rank (hubs_in_all drawn) now level known.ordered.checked wide_are way.facts.spread way.operands block b shown.block_is showing (operand_types drawn (attributes_of drawn) block b port b.kind) operands each_is
+      there = operands_there drawn places rank
+          (hubs_in_all drawn) now level known.ordered.checked wide_are way.facts.spread way.operands block b
+          shown.block_is showing
+          (operand_types drawn (attributes_of drawn) block b port b.kind) operands each_is
 
       low_now : reads_now drawn (attributes_of drawn) block b.kind ≡ true → (read : ℕ) → Contains operands read → (read < length now.nets) × (level read ≤ own_level (rank block))
       low_now now_is =
-          operands_low drawn places rank (hubs_in_all drawn) now level known.ordered.checked wide_are way.facts.spread way.operands block b shown.block_is showing (operand_types drawn (attributes_of drawn) block b port b.kind) operands each_is
+          operands_low drawn places rank (hubs_in_all drawn) now level known.ordered.checked wide_are
+          way.facts.spread way.operands block b shown.block_is showing
+          (operand_types drawn (attributes_of drawn) block b port b.kind) operands each_is
           (early known.lines known.controls drawn rank order_is block b shown.block_is inside now_is)
 
     -- in the words that the element asks for
     pub args_are : AreArgs before (operand_types drawn (attributes_of drawn) block b port b.kind) operands
     args_are =
         let g = going_now in
-        words_are before (IsOne places_now fit_now (length going.spots.entries) before g.0 g.1.way) (operand_types drawn (attributes_of drawn) block b port b.kind) operands (λ type number is. is.word) (each_is places_now fit_now (length going.spots.entries) before g.0 g.1.way)
+        words_are before (IsOne places_now fit_now (length going.spots.entries) before g.0 g.1.way)
+        (operand_types drawn (attributes_of drawn) block b port b.kind) operands (λ type number is. is.word)
+        (each_is places_now fit_now (length going.spots.entries) before g.0 g.1.way)
 
     stood : (start : Circuit) → IsBegun setting start → length start.nets ≤ length before.nets → (read : ℕ) → Contains operands read → read < length start.nets
     stood start begun long = let is = begun.each places_now fit_now in there places_now fit_now _ start is.level is.way
 
     module _ (after : Circuit) (entry : Entry) (puts : PutsEntry drawn (timing_for setting.design) before after block b port element operands entry) where
-      stand_low : (places : Places) (start : Circuit) (closed : ℕ) (level : ℕ → ℕ) → Fits setting places → IsGoingBy setting places start closed before level → StandLow setting before after level block operands entry
+      stand_low : (places : Places) (start : Circuit) (closed : ℕ) (level : ℕ → ℕ) → Fits setting places
+          → IsGoingBy setting places start closed before level
+          → StandLow setting before after level block operands entry
       stand_low places start closed level fits is = elim (cases_Bool (reads_now drawn (attributes_of drawn) block b.kind)) [
         | inl now_is ↦
             let low = low_now places fits closed before level is.way now_is in
@@ -171,7 +199,11 @@ module _ (setting : Setting) (known : IsKnown setting) (before : Circuit) (going
               record {
                 own = most_of level operands;
                 some = most_above level operands;
-                named = λ read among. (there places fits closed before level is.way read among, subst (λ (r : ℕ). level r ≤ most_of level operands) among.2 (most_at level operands among.0 read among.1));
+                named = λ read among. (
+                  there places fits closed before level is.way read among,
+                  subst (λ (r : ℕ). level r ≤ most_of level operands) among.2
+                      (most_at level operands among.0 read among.1),
+                );
                 answer = omega (arith, zero);
               }
           | inr keeps ↦

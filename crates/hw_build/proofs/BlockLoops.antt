@@ -60,7 +60,9 @@ pub record AreInputSpots (spots : Spots) (inputs : ℕ) : Type 0 where
   pub entries : (k : ℕ) → k < inputs → slice_index_or spots.entries k 0 ≡ k
   pub stages : (k : ℕ) → k < inputs → slice_index_or spots.stages k 0 ≡ k
 
-module _ (setting : Setting) (listed : InputsAreListed) (valid : TypesAreValid) (ordered : IsOrdered setting.design.checked.now.diagram setting.design.checked.now.order) (set : IsSet setting) (now : Circuit) (begun : IsBegun setting now) (spots : Spots)
+module _ (setting : Setting) (listed : InputsAreListed) (valid : TypesAreValid)
+    (ordered : IsOrdered setting.design.checked.now.diagram setting.design.checked.now.order) (set : IsSet setting)
+    (now : Circuit) (begun : IsBegun setting now) (spots : Spots)
     (inputs : AreInputSpots spots (length (root_inputs setting.design.checked.now.diagram (attributes_of setting.design.checked.now.diagram)))) where
   abbrev drawn : Diagram
   drawn = setting.design.checked.now.diagram
@@ -72,13 +74,15 @@ module _ (setting : Setting) (listed : InputsAreListed) (valid : TypesAreValid) 
   hubs = hubs_in_all drawn
 
   -- what has its argument at first is a root input
-  role_input : (block : ℕ) (b : Block) (port element : ℕ) → IsShown drawn (attributes_of drawn) block b port element → hub_at setting.firsts.now block port element < roots → is_input_role (row_of b.kind).place.role ≡ true
+  role_input : (block : ℕ) (b : Block) (port element : ℕ) → IsShown drawn (attributes_of drawn) block b port element
+      → hub_at setting.firsts.now block port element < roots → is_input_role (row_of b.kind).place.role ≡ true
   role_input block b port element shown early = elim (cases_Bool (is_input_role (row_of b.kind).place.role)) [
     | inl input ↦ input
     | inr other ↦ let low = (place_other drawn set.stood.earlier set.stood.later setting.firsts.now set.stood.has block b port element shown other).0 in absurd (omega (arith, low, early))
   ]
 
-  role_other : (block : ℕ) (b : Block) (port element : ℕ) → IsShown drawn (attributes_of drawn) block b port element → roots ≤ hub_at setting.firsts.now block port element → is_input_role (row_of b.kind).place.role ≡ false
+  role_other : (block : ℕ) (b : Block) (port element : ℕ) → IsShown drawn (attributes_of drawn) block b port element
+      → roots ≤ hub_at setting.firsts.now block port element → is_input_role (row_of b.kind).place.role ≡ false
   role_other block b port element shown past = elim (cases_Bool (is_input_role (row_of b.kind).place.role)) [
     | inl input ↦
         let place = place_input drawn setting.design.checked.now.order set.stood.earlier set.stood.later setting.firsts.now set.stood.has listed valid ordered block b port element shown input in
@@ -116,9 +120,14 @@ module _ (setting : Setting) (listed : InputsAreListed) (valid : TypesAreValid) 
           let from = shown.port_from in
           let to = shown.port_to in
           let first : port ≡ 1 = omega (arith, one, from, to) in
-          let wide : shown_width drawn (attributes_of drawn) b.kind block port ≡ (attributes_of drawn).width_at block 1 = ap (λ (k : Kind). shown_width drawn (attributes_of drawn) k block port) kind_is ∙ ap ((attributes_of drawn).width_at block) first in
+          let wide : shown_width drawn (attributes_of drawn) b.kind block port
+          ≡ (attributes_of drawn).width_at block 1 =
+          ap (λ (k : Kind). shown_width drawn (attributes_of drawn) k block port) kind_is
+          ∙ ap ((attributes_of drawn).width_at block) first in
           let below = shown.element_below in
-          let found = (listed drawn (attributes_of drawn) ordered.checked.wired).has_each block b number element shown.block_is (ap (λ (k : Kind). root_input (row_of k).place.role) kind_is) (omega (arith, below, wide)) in
+          let found = (listed drawn (attributes_of drawn) ordered.checked.wired).has_each block b number element
+          shown.block_is (ap (λ (k : Kind). root_input (row_of k).place.role) kind_is)
+          (omega (arith, below, wide)) in
           let e : RootElement = root_element (attributes_of drawn) number block element in
           let input_is : places.input number element ≡ hub_at setting.firsts.now block port element =
           fits.lines.input found.0 e found.1 ∙ sym (ap (λ (p : ℕ). hub_at setting.firsts.now block p element) first ∙ set.stood.has.of_inputs found.0 e found.1)
@@ -128,7 +137,9 @@ module _ (setting : Setting) (listed : InputsAreListed) (valid : TypesAreValid) 
       input_piped : IsElementPiped drawn (timing_for setting.design) places roots hubs now block port element
       input_piped =
           let input = role_input block b port element shown low in
-          unpiped_by drawn (timing_for setting.design) places roots hubs now block port element (hub_at setting.firsts.now block port element) entry_is stage_is ((attributes_of drawn).period_at block) refl
+          unpiped_by drawn (timing_for setting.design) places roots hubs now block port element
+          (hub_at setting.firsts.now block port element) entry_is stage_is
+          ((attributes_of drawn).period_at block) refl
           (inl (elim (cases_lt 0 ((timing_for setting.design).stages block)) [
             | inl some ↦ absurd (unpiped_input b.kind input (set.designed.scheduled.planned.allowed.each block b shown.block_is some).kind)
             | inr none ↦ omega (arith, none)
@@ -172,7 +183,8 @@ module _ (setting : Setting) (listed : InputsAreListed) (valid : TypesAreValid) 
   none_before f (suc n) none = let rest = none_before f n (λ k below. none k (omega (arith, below))) in let last = none n (omega arith) in omega (arith, rest, last)
 
   -- a root input doesn't multiply
-  no_product : (block : ℕ) (b : Block) (element : ℕ) → IsShown drawn (attributes_of drawn) block b 1 element → hub_at setting.firsts.now block 1 element < roots → products_by drawn setting.design.plan.now block ≡ 1 → ⊥
+  no_product : (block : ℕ) (b : Block) (element : ℕ) → IsShown drawn (attributes_of drawn) block b 1 element
+      → hub_at setting.firsts.now block 1 element < roots → products_by drawn setting.design.plan.now block ≡ 1 → ⊥
   no_product block b element shown early owns =
       let none : multiplies drawn block ≡ false = ap multiplies_if shown.block_is ∙ unmultiplied_input b.kind (role_input block b 1 element shown early) in
       let zero : products_by drawn setting.design.plan.now block ≡ 0 = ap (λ (t : Bool). if t && not (is_shared drawn (attributes_of drawn) setting.design.plan.now block) then 1 else 0) none in
@@ -191,10 +203,15 @@ module _ (setting : Setting) (listed : InputsAreListed) (valid : TypesAreValid) 
       let size = inputs.size in
       let registers : before (hub_registers drawn setting.design.plan.now) (length spots.entries) ≡ 0 =
       none_before (hub_registers drawn setting.design.plan.now) (length spots.entries)
-      (λ k below. cond-true {A = ℕ} (nat_lt k roots) 0 (registers_by drawn setting.design.plan.now (owner_of drawn k) (slice_get drawn.blocks (owner_of drawn k))) (lt-ltb k roots (omega (arith, below, size))))
+      (λ k below. cond-true {A = ℕ} (nat_lt k roots) 0
+      (registers_by drawn setting.design.plan.now (owner_of drawn k)
+      (slice_get drawn.blocks (owner_of drawn k))) (lt-ltb k roots (omega (arith, below, size))))
       in
       let products : before (hub_products drawn setting.design.plan.now) (length spots.entries) ≡ 0 =
-      none_before (hub_products drawn setting.design.plan.now) (length spots.entries) (λ k below. cond-true {A = ℕ} (nat_lt k roots) 0 (products_by drawn setting.design.plan.now (owner_of drawn k)) (lt-ltb k roots (omega (arith, below, size))))
+      none_before (hub_products drawn setting.design.plan.now) (length spots.entries)
+      (λ k below. cond-true {A = ℕ} (nat_lt k roots) 0
+      (products_by drawn setting.design.plan.now (owner_of drawn k))
+      (lt-ltb k roots (omega (arith, below, size))))
       in
       record {
         more = omega arith;

@@ -88,14 +88,17 @@ module _ (diagram : Diagram) (order : List ℕ) (is : IsOrder diagram (attribute
 
 -- ---- root inputs
 
-pub input_is : (diagram : Diagram) → IsWired diagram → ColumnsComeBack → (k : ℕ) (e : RootElement) → slice_get (root_inputs diagram (attributes_of diagram)) k ≡ Some e → input_place diagram e.number e.element ≡ k
+pub input_is : (diagram : Diagram) → IsWired diagram → ColumnsComeBack → (k : ℕ) (e : RootElement)
+    → slice_get (root_inputs diagram (attributes_of diagram)) k ≡ Some e
+    → input_place diagram e.number e.element ≡ k
 input_is diagram wired back k e at = let same : pos (input_place diagram e.number e.element) ≡ pos k = back diagram (attributes_of diagram) (λ place t. pos place) k e 0 wired at in ap number_in same
   where
     number_in : ℤ → ℕ
     number_in (pos n) = n
     number_in (negsuc n) = 0
 
-pub lines_are_placed : (diagram : Diagram) (firsts : List (List ℕ)) (operands : Operands) → IsWired diagram → ColumnsComeBack → AreLinePlaces diagram firsts operands (line_places diagram firsts operands)
+pub lines_are_placed : (diagram : Diagram) (firsts : List (List ℕ)) (operands : Operands) → IsWired diagram
+    → ColumnsComeBack → AreLinePlaces diagram firsts operands (line_places diagram firsts operands)
 lines_are_placed diagram firsts operands wired back = record {
   input = input_is diagram wired back;
   after = λ block b port element shown. refl;

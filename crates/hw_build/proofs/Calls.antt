@@ -17,7 +17,8 @@ module _ (timing : Timing) (from block p own hub : ℕ) (kept : ℤ) (some : 0 <
     registered = λ e. absurd (false≢true e);
   }
 
-  pub late_use : (lag : ℕ) → IsLateEdge timing from p block own lag → timing.latency block + lag < 2 ^ 62 → IsUse (source_of hub (frame_behind timing p from) kept true) (use_into timing from p block own (Some lag))
+  pub late_use : (lag : ℕ) → IsLateEdge timing from p block own lag → timing.latency block + lag < 2 ^ 62
+      → IsUse (source_of hub (frame_behind timing p from) kept true) (use_into timing from p block own (Some lag))
   late_use lag edge early = record {
     some = some;
     most = most;

@@ -20,7 +20,8 @@ use Rattle.hw_build.specs.declared.wants.Want.{Want}
 use Rattle.hw_build.specs.declared.wants.Class.{Class}
 use Rattle.hw_build.specs.declared.wants.Seat.{Seat}
 use Rattle.hw_build.specs.inner.Levels.{level_behind}
-use Rattle.hw_build.specs.inner.Wants.{source_by, AreFolded, IsLinePart, class_registers, registers_below, IsClass, AreClasses, IsClassAnswered, IsBegun, IsMetBy, IsClassMet, AreAnswered, IsPlace, ArePlaces, AreSeated, IsSeat, AreMet, net_at, nets_at}
+use Rattle.hw_build.specs.inner.Wants.{source_by, AreFolded, IsLinePart, class_registers, registers_below, IsClass, AreClasses, IsClassAnswered, IsBegun, IsMetBy, IsClassMet, AreAnswered, IsPlace}
+use Rattle.hw_build.specs.inner.Wants.{ArePlaces, AreSeated, IsSeat, AreMet, net_at, nets_at}
 use Rattle.hw_build.proofs.Growth.{goes_same, goes_then, goes_appended}
 use Rattle.hw_build.proofs.Levels.{level_stays, levelled_by_call, answer_level, register_level}
 use Rattle.hw_build.proofs.Soundness.{sound_by_call}
@@ -28,7 +29,8 @@ use Rattle.hw_net.proofs.Extends.{word-stays}
 
 -- ---- one call
 
-word_was : (before after : Circuit) (number width : ℕ) (signed : Bool) → Extends before after → number < length before.nets → HasWord after.nets number width signed → HasWord before.nets number width signed
+word_was : (before after : Circuit) (number width : ℕ) (signed : Bool) → Extends before after
+    → number < length before.nets → HasWord after.nets number width signed → HasWord before.nets number width signed
 word_was before after number width signed grown inside word = record { net = word.net; is = stood-there before after number word.net grown inside word.is; wide = word.wide; sign = word.sign }
 
 named_low : (before : Circuit) (level : ℕ → ℕ) (hub : ℕ) → hub < length before.nets → (read : ℕ) → Contains (hub ∷ []) read → (read < length before.nets) × (level read ≤ level hub + 1)
@@ -38,7 +40,9 @@ named_low before level hub inside read among = go read among
     go read (zero, below, is) = let same : hub ≡ read = is in subst (λ (n : ℕ). (n < length before.nets) × (level n ≤ level hub + 1)) same (inside, omega arith)
     go read (suc k, below, is) = absurd (omega (arith, below))
 
-module _ (closed hubs ports : ℕ) (now after : Circuit) (level : ℕ → ℕ) (one : Class) (own : List ℕ) (begun : IsBegun closed hubs ports now level) (class : IsClass now one) (is : IsClassAnswered now after one own) where
+module _ (closed hubs ports : ℕ) (now after : Circuit) (level : ℕ → ℕ) (one : Class) (own : List ℕ)
+    (begun : IsBegun closed hubs ports now level) (class : IsClass now one)
+    (is : IsClassAnswered now after one own) where
   hub : ℕ
   hub = one.feed.hub
 
@@ -64,7 +68,8 @@ module _ (closed hubs ports : ℕ) (now after : Circuit) (level : ℕ → ℕ) (
   }
 
   -- what met a want does
-  pub met_later : (feed : Feed) (asked : Use) (number : ℕ) → IsMetBy closed hubs now level feed asked number → IsMetBy closed hubs after (level_behind now after level (level one.feed.hub + 1)) feed asked number
+  pub met_later : (feed : Feed) (asked : Use) (number : ℕ) → IsMetBy closed hubs now level feed asked number
+      → IsMetBy closed hubs after (level_behind now after level (level one.feed.hub + 1)) feed asked number
   met_later feed asked number met =
       let more = longer now after appends.extends in
       let a = met.inside in
@@ -88,7 +93,9 @@ module _ (closed hubs ports : ℕ) (now after : Circuit) (level : ℕ → ℕ) (
       }
 
   -- its own answers meet theirs
-  pub met_here : (p : ℕ) (asked : Use) (number : ℕ) → slice_get one.uses.items p ≡ Some asked → slice_get own p ≡ Some number → IsMetBy closed hubs after (level_behind now after level (level one.feed.hub + 1)) one.feed asked number
+  pub met_here : (p : ℕ) (asked : Use) (number : ℕ) → slice_get one.uses.items p ≡ Some asked
+      → slice_get own p ≡ Some number
+      → IsMetBy closed hubs after (level_behind now after level (level one.feed.hub + 1)) one.feed asked number
   met_here p asked number at there =
       let answer : IsAnswer now after (source_by one.feed) (reader_of (source_by one.feed) asked) number = is.answers.each p asked number at there in
       let more = longer now after appends.extends in
@@ -141,15 +148,29 @@ answered_none before classes = record {
 
 source_later : (before after : Circuit) (one : Class) → Extends before after → IsClass before one → IsClass after one
 source_later before after one grown is = record {
-  source = record { net = is.source.net; is = still-there before after one.feed.hub is.source.net grown is.source.is; word = is.source.word; first = is.source.first; some = is.source.some; most = is.source.most; early = is.source.early };
+  source = record {
+    net = is.source.net;
+    is =
+        still-there before after one.feed.hub is.source.net grown is.source.is;
+    word = is.source.word;
+    first =
+        is.source.first;
+    some = is.source.some;
+    most = is.source.most;
+    early = is.source.early;
+  };
   asked = is.asked;
 }
 
 -- the class that is next may be asked for still
-pub class_next : (before now : Circuit) (classes : List Class) (answers : List (List ℕ)) (count : ℕ) (one : Class) → AreClasses before classes → AreAnswered before now classes answers count → slice_get classes count ≡ Some one → IsClass now one
+pub class_next : (before now : Circuit) (classes : List Class) (answers : List (List ℕ)) (count : ℕ) (one : Class)
+    → AreClasses before classes → AreAnswered before now classes answers count → slice_get classes count ≡ Some one
+    → IsClass now one
 class_next before now classes answers count one are answered at = source_later before now one answered.extends (are.each count one at)
 
-pub answered_more : (before now after : Circuit) (classes : List Class) (answers : List (List ℕ)) (count : ℕ) (one : Class) (own : List ℕ) → AreClasses before classes → AreAnswered before now classes answers count → slice_get classes count ≡ Some one → IsClassAnswered now after one own
+pub answered_more : (before now after : Circuit) (classes : List Class) (answers : List (List ℕ)) (count : ℕ)
+    (one : Class) (own : List ℕ) → AreClasses before classes → AreAnswered before now classes answers count
+    → slice_get classes count ≡ Some one → IsClassAnswered now after one own
     → AreAnswered before after classes (answers ++ own ∷ []) (count + 1)
 answered_more before now after classes answers count one own are answered at is = record {
   size = length-append answers (own ∷ []) ∙ omega (arith, answered.size);
@@ -188,7 +209,10 @@ answered_more before now after classes answers count one own are answered at is 
         each = λ c x numbers here there. elim (split-last answers own numbers c there) [
           | inl front ↦
               let old = was.each c x numbers here front.1 in
-              record { each = λ p asked number use_at stands. met_later closed hubs ports now after was.next one own was.goes.begun class is x.feed asked number (old.each p asked number use_at stands) }
+              record {
+                each = λ p asked number use_at stands. met_later closed hubs ports now after was.next one own
+                    was.goes.begun class is x.feed asked number (old.each p asked number use_at stands);
+              }
           | inr last ↦
               subst (λ (y : Class). IsClassMet closed hubs after (level_behind now after was.next (was.next one.feed.hub + 1)) y numbers) (the_one c x here last.0)
               (subst (λ (ns : List ℕ). IsClassMet closed hubs after (level_behind now after was.next (was.next one.feed.hub + 1)) one ns) last.1
@@ -205,7 +229,9 @@ answered_more before now after classes answers count one own are answered at is 
 
 -- ---- all wants
 
-seat_place : (before now : Circuit) (wants : List Want) (classes : List Class) (answers : List (List ℕ)) (want : Want) (seat : Seat) → AreAnswered before now classes answers (length classes) → IsSeat classes want seat → IsPlace answers seat
+seat_place : (before now : Circuit) (wants : List Want) (classes : List Class) (answers : List (List ℕ))
+    (want : Want) (seat : Seat) → AreAnswered before now classes answers (length classes) → IsSeat classes want seat
+    → IsPlace answers seat
 seat_place before now wants classes answers want seat answered is =
     let inside = slice_get_within classes seat.class is.one is.is in
     let there : slice_get answers seat.class ≡ Some (slice_index_or answers seat.class []) = slice_get-get_or answers seat.class [] (omega (arith, inside, answered.size)) in
@@ -213,7 +239,9 @@ seat_place before now wants classes answers want seat answered is =
     let low = slice_get_within is.one.uses.items seat.place want.to is.at in
     record { own = slice_index_or answers seat.class []; is = there; below = omega (arith, count, low) }
 
-pub places_are : (before now : Circuit) (wants : List Want) (classes : List Class) (seats : List Seat) (answers : List (List ℕ)) → AreSeated wants classes seats (length wants) → AreAnswered before now classes answers (length classes) → ArePlaces answers seats
+pub places_are : (before now : Circuit) (wants : List Want) (classes : List Class) (seats : List Seat)
+    (answers : List (List ℕ)) → AreSeated wants classes seats (length wants)
+    → AreAnswered before now classes answers (length classes) → ArePlaces answers seats
 places_are before now wants classes seats answers seated answered = record {
   each = λ k seat at.
       let below = slice_get_within seats k seat at in
@@ -236,7 +264,9 @@ net_stands answers seat place =
       slice_get-get_or place.own seat.place 0 place.below ∙ ap (λ (xs : List ℕ). Some (slice_index_or xs seat.place 0)) (sym own),
     )
 
-pub wants_are_met : (before now : Circuit) (wants : List Want) (classes : List Class) (seats : List Seat) (answers : List (List ℕ)) → AreSeated wants classes seats (length wants) → AreAnswered before now classes answers (length classes)
+pub wants_are_met : (before now : Circuit) (wants : List Want) (classes : List Class) (seats : List Seat)
+    (answers : List (List ℕ)) → AreSeated wants classes seats (length wants)
+    → AreAnswered before now classes answers (length classes)
     → AreMet before now wants (nets_at answers seats)
 wants_are_met before now wants classes seats answers seated answered = record {
   size = length-map seats (net_at answers) ∙ seated.size;

@@ -54,7 +54,9 @@ adds_one a b type value valid grown = record {
 }
 
 -- a coefficient that was put in
-pub coefficient_is : (a b : Circuit) (list : List Decimal) (element : ℕ) (type : FxType) (value : ℤ) (number : ℕ) → StoresEntry list element type value → number ≡ length a.nets → b ≡ with_net a (constant_net type value) → IsCoefficient a b list element type number
+pub coefficient_is : (a b : Circuit) (list : List Decimal) (element : ℕ) (type : FxType) (value : ℤ) (number : ℕ)
+    → StoresEntry list element type value → number ≡ length a.nets → b ≡ with_net a (constant_net type value)
+    → IsCoefficient a b list element type number
 coefficient_is a b list element type value number stored place grown = record {
   value = value;
   stored = stored;
@@ -63,7 +65,9 @@ coefficient_is a b list element type value number stored place grown = record {
 }
 
 -- it stays
-pub coefficient_stays : (a b c d : Circuit) (list : List Decimal) (element : ℕ) (type : FxType) (number : ℕ) → Extends a b → Extends c d → IsCoefficient b c list element type number → IsCoefficient a d list element type number
+pub coefficient_stays : (a b c d : Circuit) (list : List Decimal) (element : ℕ) (type : FxType) (number : ℕ)
+    → Extends a b → Extends c d → IsCoefficient b c list element type number
+    → IsCoefficient a d list element type number
 coefficient_stays a b c d list element type number before after is = record {
   value = is.value;
   stored = is.stored;

@@ -51,9 +51,14 @@ control_feeds diagram block b control e = asked_control (asks_ever (row_of b.kin
 
 module _ {diagram : Diagram} {order : List ℕ} {plan : Resolved} {times : Times} {firsts : List (List ℕ)} (l : IsLawful diagram order plan times firsts) where
   -- as the code has it
-  pub control_put : (block : ℕ) (b : Block) → slice_get diagram.blocks block ≡ Some b → (old new : Asks) (o : Option ℕ) → control_ever b ≡ o → IsControlEnd diagram plan times firsts old new block b o → IsControlPut diagram plan times firsts old new block
+  pub control_put : (block : ℕ) (b : Block) → slice_get diagram.blocks block ≡ Some b
+      → (old new : Asks) (o : Option ℕ) → control_ever b ≡ o
+      → IsControlEnd diagram plan times firsts old new block b o
+      → IsControlPut diagram plan times firsts old new block
   control_put block b at old new o is put = record {
-    end = λ x there. subst (λ (y : Block). IsControlEnd diagram plan times firsts old new block y (control_ever y)) (same_Some b x (sym at ∙ there)) (subst (IsControlEnd diagram plan times firsts old new block b) (sym is) put);
+    end = λ x there. subst (λ (y : Block). IsControlEnd diagram plan times firsts old new block y (control_ever y))
+        (same_Some b x (sym at ∙ there))
+        (subst (IsControlEnd diagram plan times firsts old new block b) (sym is) put);
   }
 
   module _ (block control : ℕ) (b : Block) (at : slice_get diagram.blocks block ≡ Some b) (feeds : Feeds diagram block b Enable control) where
@@ -81,7 +86,10 @@ module _ {diagram : Diagram} {order : List ℕ} {plan : Resolved} {times : Times
         let own = repeated_own ((attributes_of diagram).width_at control 1) element (omega (arith, one, below)) in
         omega (arith, hub_is, own)
 
-    pub still_control : (old new : List Ask) (wants more : List Want) (hub : ℕ) → (attributes_of diagram).period_at control ≡ None → hub ≡ width_at firsts control 1 → AsksAll old new wants more (hub_from hub) unasked 1 → IsEndPut diagram plan times firsts old new wants more b edge
+    pub still_control : (old new : List Ask) (wants more : List Want) (hub : ℕ)
+        → (attributes_of diagram).period_at control ≡ None → hub ≡ width_at firsts control 1
+        → AsksAll old new wants more (hub_from hub) unasked 1
+        → IsEndPut diagram plan times firsts old new wants more b edge
     still_control old new wants more hub still hub_is all = still_put l old new wants more b edge hub 1 still (count_is l b edge shows) (λ element below. hub_same hub element hub_is below) all
 
     module _ (p : ℕ) (moves : (attributes_of diagram).period_at control ≡ Some p) where
@@ -109,7 +117,10 @@ module _ {diagram : Diagram} {order : List ℕ} {plan : Resolved} {times : Times
           let none : slack_into (is_registered b own p) b own p ≡ 0 = ap (λ (flag : Bool). slack_into flag b own p) (plain own) in
           omega (arith, slack, none)
 
-      control_element : (hub own element : ℕ) → (attributes_of diagram).period_at block ≡ Some own → hub ≡ width_at firsts control 1 → element < 1 → IsElement l (hub_from hub) (plain_want hub (frame_behind (timing l) p control) (use_by own)) b edge p element
+      control_element : (hub own element : ℕ) → (attributes_of diagram).period_at block ≡ Some own
+          → hub ≡ width_at firsts control 1 → element < 1
+          → IsElement l (hub_from hub)
+          (plain_want hub (frame_behind (timing l) p control) (use_by own)) b edge p element
       control_element hub own element period_is hub_is below =
           let want : Want = record { feed = record { hub = hub + element; frame = frame_behind (timing l) p control; first = None }; to = use_by own } in
           let same = hub_same hub element hub_is below in
@@ -122,36 +133,66 @@ module _ {diagram : Diagram} {order : List ℕ} {plan : Resolved} {times : Times
             first_is = λ late. absurd (false≢true late);
             to_is = refl;
           } in
-          let zero_element : repeated ((attributes_of diagram).width_at control 1) element ≡ 0 = (let one = of.one in let own_element = repeated_own ((attributes_of diagram).width_at control 1) element (omega (arith, one, below)) in omega (arith, own_element, below)) in
+          let zero_element : repeated ((attributes_of diagram).width_at control 1) element ≡ 0 =
+          (let one = of.one in let own_element =
+          repeated_own ((attributes_of diagram).width_at control 1) element (omega (arith, one, below)) in
+          omega (arith, own_element, below)) in
           record {
             want = want;
             asks = refl;
             hub = same;
             is = is;
             may = λ net words.
-                end_may_ask l.little l.short diagram plan times no_places l.scheduled l.timed net block b Enable control p (pos 0) (hub_for diagram plan times firsts edge element) want at (readable_at diagram l.scheduled.checked.wired block b at).parameters shows feeds moves is
+                end_may_ask l.little l.short diagram plan times no_places l.scheduled l.timed net block b Enable
+                control p (pos 0) (hub_for diagram plan times firsts edge element) want at
+                (readable_at diagram l.scheduled.checked.wired block b at).parameters shows feeds moves is
                 (plain_hub net (hub_for diagram plan times firsts edge element) ((attributes_of diagram).type_at control 1) (l.valid diagram order control of.source l.ordered of.is).0
-                (subst (λ (e : ℕ). HasWord net.nets (hub_at firsts control 1 e) (width_of ((attributes_of diagram).type_at control 1)) (is_signed ((attributes_of diagram).type_at control 1))) (sym zero_element) (words.each control of.source 1 0 shown)));
+                (subst (λ (e : ℕ). HasWord net.nets (hub_at firsts control 1 e)
+                (width_of ((attributes_of diagram).type_at control 1))
+                (is_signed ((attributes_of diagram).type_at control 1))) (sym zero_element)
+                (words.each control of.source 1 0 shown)));
           }
 
-      pub moving_control : (old new : List Ask) (wants more : List Want) (hub own : ℕ) → (attributes_of diagram).period_at block ≡ Some own → hub ≡ width_at firsts control 1 → AsksAll old new wants more (hub_from hub) (plain_want hub (frame_behind (timing l) p control) (use_by own)) 1
+      pub moving_control : (old new : List Ask) (wants more : List Want) (hub own : ℕ)
+          → (attributes_of diagram).period_at block ≡ Some own → hub ≡ width_at firsts control 1
+          → AsksAll old new wants more (hub_from hub)
+          (plain_want hub (frame_behind (timing l) p control) (use_by own)) 1
           → IsEndPut diagram plan times firsts old new wants more b edge
       moving_control old new wants more hub own period_is hub_is all =
           let want : Use → Want = want_for diagram plan times firsts in
           let each : ℕ → Use = λ element. use_of diagram (attributes_of diagram) plan times edge p element None in
-          let asked : ◌≡◌ {A = Asked} (record { shift = seen_by l edge - latency_after (timing l) p control; period = own }) (use_by own) = ap (λ (n : ℕ). record { shift = n - latency_after (timing l) p control; period = own }) (seen_is own period_is) in
-          moving_put l old new wants more b edge p 1 (hub_from hub) (plain_want hub (frame_behind (timing l) p control) (use_by own)) moves (count_is l b edge shows) (λ element below. control_element hub own element period_is hub_is below)
+          let asked : ◌≡◌ {A = Asked} (record {
+            shift =
+                seen_by l edge - latency_after (timing l) p control;
+            period = own;
+          }) (use_by own) =
+          ap (λ (n : ℕ). record { shift = n - latency_after (timing l) p control; period = own })
+          (seen_is own period_is) in
+          moving_put l old new wants more b edge p 1 (hub_from hub)
+          (plain_want hub (frame_behind (timing l) p control) (use_by own)) moves (count_is l b edge shows)
+          (λ element below. control_element hub own element period_is hub_is below)
           (wants_are (plain_want hub (frame_behind (timing l) p control) (use_by own)) (λ element. want (each element)) 1
           (λ element below.
           let same : hub + element ≡ hub_at firsts control 1 element = omega (arith, hub_is) in
           ap (λ (h : ℕ). Some (record { feed = record { hub = h; frame = frame_behind (timing l) p control; first = None }; to = use_by own })) same
-          ∙ ap (λ (u : Asked). Some (record { feed = record { hub = hub_at firsts control 1 element; frame = frame_behind (timing l) p control; first = None }; to = u })) (sym (use_is l edge p own moves period_is ∙ asked)))
+          ∙ ap (λ (u : Asked). Some (record {
+            feed =
+                record {
+                  hub = hub_at firsts control 1 element;
+                  frame = frame_behind (timing l) p control;
+                  first =
+                      None;
+                };
+            to = u;
+          })) (sym (use_is l edge p own moves period_is ∙ asked)))
           ∙ ap (λ (n : ℕ). map (λ element. want (each element)) (numbers_from 0 n)) (sym of.one) ∙ sym (map-map want each (numbers_from 0 ((attributes_of diagram).width_at control 1)))
           ∙ ap (map want) (sym (uses_are l b edge p own false moves at shows period_is (plain own))))
           all
 
       -- it ends in a frame of the block
-      pub control_frame : (own : ℕ) → (attributes_of diagram).period_at block ≡ Some own → (max p own ≡ own) × (latency_after (timing l) p control + (seen_by l edge - latency_after (timing l) p control) ≡ (timing l).latency block)
+      pub control_frame : (own : ℕ) → (attributes_of diagram).period_at block ≡ Some own
+          → (max p own ≡ own) × (latency_after (timing l) p control
+          + (seen_by l edge - latency_after (timing l) p control) ≡ (timing l).latency block)
       control_frame own period_is =
           let same : in_time.own ≡ own = same_Some in_time.own own (sym in_time.period ∙ period_is) in
           let plain_edge : IsPlainEdge (timing l) control p block own = subst (λ (o : ℕ). IsPlainEdge (timing l) control p block o) same in_time.edge in

@@ -71,7 +71,10 @@ module _ (diagram : Diagram) (checked : IsChecked diagram) (moving : MovingHaveP
       subst (λ (p : Option ℕ). IsPeriod (samples p)) (sym (ap (λ (x : RootElement). x.period) of.4)) (period_is e.block of.0 of.1 (output_moves of.0.kind e.number of.2))
 
 -- a port of two lists is one of the first or of the second
-both_ways : (inputs outputs : List NetPort) (P : NetPort → Type 0) → ((k : ℕ) (port : NetPort) → slice_get inputs k ≡ Some port → P port) → ((k : ℕ) (port : NetPort) → slice_get outputs k ≡ Some port → P port) → (port : NetPort) → Contains (inputs ++ outputs) port → P port
+both_ways : (inputs outputs : List NetPort) (P : NetPort → Type 0)
+    → ((k : ℕ) (port : NetPort) → slice_get inputs k ≡ Some port → P port)
+    → ((k : ℕ) (port : NetPort) → slice_get outputs k ≡ Some port → P port) → (port : NetPort)
+    → Contains (inputs ++ outputs) port → P port
 both_ways inputs outputs P one other port has = go inputs one has.0 (slice_get-get_or (inputs ++ outputs) has.0 port has.1 ∙ ap (λ (p : NetPort). Some p) has.2)
   where
     go : (inputs : List NetPort) → ((k : ℕ) (port : NetPort) → slice_get inputs k ≡ Some port → P port) → (k : ℕ) → slice_get (inputs ++ outputs) k ≡ Some port → P port
@@ -82,10 +85,17 @@ both_ways inputs outputs P one other port has = go inputs one has.0 (slice_get-g
 place_of_port : (ports : List NetPort) (port : NetPort) (has : Contains ports port) → slice_get ports has.0 ≡ Some port
 place_of_port ports port has = slice_get-get_or ports has.0 port has.1 ∙ ap (λ (p : NetPort). Some p) has.2
 
-module _ (diagram : Diagram) (plan : Resolved) (times : Times) (firsts : List (List ℕ)) (places : Places) (place_of : ℕ → ℕ) (now : Circuit) (filled : IsFilled diagram plan times firsts places place_of now) (checked : IsChecked diagram) (inputs_listed : InputsAreListed) (outputs_listed : OutputsAreListed)
+module _ (diagram : Diagram) (plan : Resolved) (times : Times) (firsts : List (List ℕ)) (places : Places)
+    (place_of : ℕ → ℕ) (now : Circuit) (filled : IsFilled diagram plan times firsts places place_of now)
+    (checked : IsChecked diagram) (inputs_listed : InputsAreListed) (outputs_listed : OutputsAreListed)
     (old names new : Names) (inputs outputs : List NetPort)
-    (ins : ArePortsFor diagram (root_inputs diagram (attributes_of diagram)) (λ block. (attributes_of diagram).width_at block 1) (λ k e. k) (λ block. 0) old names inputs (length (root_inputs diagram (attributes_of diagram))))
-    (outs : ArePortsFor diagram (root_outputs diagram (attributes_of diagram)) (λ block. width_into diagram (attributes_of diagram) block 1) (λ k e. hub_at firsts e.block 1 e.element) (declared_latency diagram (attributes_of diagram) plan times) names new outputs (length (root_outputs diagram (attributes_of diagram))))
+    (ins : ArePortsFor diagram (root_inputs diagram (attributes_of diagram))
+    (λ block. (attributes_of diagram).width_at block 1) (λ k e. k) (λ block. 0) old names inputs
+    (length (root_inputs diagram (attributes_of diagram))))
+    (outs : ArePortsFor diagram (root_outputs diagram (attributes_of diagram))
+    (λ block. width_into diagram (attributes_of diagram) block 1) (λ k e. hub_at firsts e.block 1 e.element)
+    (declared_latency diagram (attributes_of diagram) plan times) names new outputs
+    (length (root_outputs diagram (attributes_of diagram))))
     (taken : AreTaken old own_names) where
   abbrev ported : Circuit
   ported = with_ports now inputs outputs
@@ -94,16 +104,24 @@ module _ (diagram : Diagram) (plan : Resolved) (times : Times) (firsts : List (L
   input_at : (k : ℕ) (port : NetPort) → slice_get inputs k ≡ Some port → (e : RootElement) × (slice_get (root_inputs diagram (attributes_of diagram)) k ≡ Some e)
   input_at k port at =
       let size = ins.size in
-      let low = slice_get_within inputs k port at in
-      (get_or (root_inputs diagram (attributes_of diagram)) k (root_element (attributes_of diagram) 0 0 0), slice_get-get_or (root_inputs diagram (attributes_of diagram)) k (root_element (attributes_of diagram) 0 0 0) (omega (arith, size, low)))
+      let low = slice_get_within inputs k port at in (
+        get_or (root_inputs diagram (attributes_of diagram)) k (root_element (attributes_of diagram) 0 0 0),
+        slice_get-get_or (root_inputs diagram (attributes_of diagram)) k
+            (root_element (attributes_of diagram) 0 0 0) (omega (arith, size, low)),
+      )
 
   output_at : (k : ℕ) (port : NetPort) → slice_get outputs k ≡ Some port → (e : RootElement) × (slice_get (root_outputs diagram (attributes_of diagram)) k ≡ Some e)
   output_at k port at =
       let size = outs.size in
-      let low = slice_get_within outputs k port at in
-      (get_or (root_outputs diagram (attributes_of diagram)) k (root_element (attributes_of diagram) 0 0 0), slice_get-get_or (root_outputs diagram (attributes_of diagram)) k (root_element (attributes_of diagram) 0 0 0) (omega (arith, size, low)))
+      let low = slice_get_within outputs k port at in (
+        get_or (root_outputs diagram (attributes_of diagram)) k (root_element (attributes_of diagram) 0 0 0),
+        slice_get-get_or (root_outputs diagram (attributes_of diagram)) k
+            (root_element (attributes_of diagram) 0 0 0) (omega (arith, size, low)),
+      )
 
-  output_net : (k : ℕ) (e : RootElement) (port : NetPort) → slice_get (root_outputs diagram (attributes_of diagram)) k ≡ Some e → slice_get outputs k ≡ Some port → port.net ≡ places.after e.block 1 e.element
+  output_net : (k : ℕ) (e : RootElement) (port : NetPort)
+      → slice_get (root_outputs diagram (attributes_of diagram)) k ≡ Some e → slice_get outputs k ≡ Some port
+      → port.net ≡ places.after e.block 1 e.element
   output_net k e port e_at at =
       let shown = output_shown diagram checked.wired outputs_listed k e e_at in
       (outs.each k e port e_at at).net ∙ sym (filled.hubs.after e.block shown.b 1 e.element shown.shown)
@@ -139,7 +157,9 @@ module _ (diagram : Diagram) (plan : Resolved) (times : Times) (firsts : List (L
         record {
           net = here;
           word = subst (λ (n : ℕ). HasWord now.nets n (width_of e.type) (is_signed e.type)) (sym here)
-              (subst (λ (type : FxType). HasWord now.nets (places.after e.block 1 e.element) (width_of type) (is_signed type)) (sym shown.type_is) (filled.way.hubs_are.words e.block shown.b 1 e.element shown.shown));
+              (subst (λ (type : FxType). HasWord now.nets (places.after e.block 1 e.element) (width_of type)
+              (is_signed type)) (sym shown.type_is)
+              (filled.way.hubs_are.words e.block shown.b 1 e.element shown.shown));
           period = is.period;
           latency_is = is.latency_is;
         };
@@ -148,8 +168,11 @@ module _ (diagram : Diagram) (plan : Resolved) (times : Times) (firsts : List (L
     };
   }
 
-  module _ (first : AreInputFirsts diagram firsts) (planned : IsPlanOf diagram plan) (moving : MovingHavePeriods) (above : PeriodsAreAbove) (short : PeriodsAreShort) (small : KeepsSize diagram plan times) where
-    number_small : (elements : List RootElement) (width_of : ℕ → ℕ) (number_of : ℕ → RootElement → ℕ) (latency_of : ℕ → ℕ) (one other : Names) (ports : List NetPort) → ArePortsFor diagram elements width_of number_of latency_of one other ports (length elements)
+  module _ (first : AreInputFirsts diagram firsts) (planned : IsPlanOf diagram plan) (moving : MovingHavePeriods)
+      (above : PeriodsAreAbove) (short : PeriodsAreShort) (small : KeepsSize diagram plan times) where
+    number_small : (elements : List RootElement) (width_of : ℕ → ℕ) (number_of : ℕ → RootElement → ℕ)
+        (latency_of : ℕ → ℕ) (one other : Names) (ports : List NetPort)
+        → ArePortsFor diagram elements width_of number_of latency_of one other ports (length elements)
         → (k : ℕ) (e : RootElement) → slice_get elements k ≡ Some e → number_of k e < 2 ^ 32
     number_small elements width_of number_of latency_of one other ports are k e at =
         let size = are.size in
@@ -172,7 +195,9 @@ module _ (diagram : Diagram) (plan : Resolved) (times : Times) (firsts : List (L
 
     ports_are : ArePorts inputs outputs
     ports_are =
-        let wants = wants_are diagram (root_inputs diagram (attributes_of diagram)) (root_outputs diagram (attributes_of diagram)) (λ block. (attributes_of diagram).width_at block 1) (λ block. width_into diagram (attributes_of diagram) block 1) input_small output_small in
+        let wants = wants_are diagram (root_inputs diagram (attributes_of diagram))
+        (root_outputs diagram (attributes_of diagram)) (λ block. (attributes_of diagram).width_at block 1)
+        (λ block. width_into diagram (attributes_of diagram) block 1) input_small output_small in
         record {
           names = port_names _ (inputs ++ outputs) wants has_ports.names.given;
           differ = port_names_differ _ (inputs ++ outputs) has_ports.names.given;

@@ -22,8 +22,15 @@ use Rattle.hw_build.specs.inner.UnderWay.{IsUnderWay}
 use Rattle.hw_build.specs.inner.Units.{HaveUnits}
 use Rattle.hw_build.proofs.Runnable.{netlist_runs}
 
-pub finished : (diagram : Diagram) (plan : Resolved) (times : Times) (places : Places) (place_of : ℕ → ℕ) (hubs : ℕ) (netlist : Circuit) (level : ℕ → ℕ) → 0 < netlist.cycles → IsUnderWay diagram (timing_by diagram plan times) places place_of hubs hubs netlist level (length diagram.blocks)
-    → HaveUnits diagram plan times places hubs hubs netlist → length (multipliers netlist) ≡ units_in_all diagram (attributes_of diagram) plan times → length (others netlist) ≡ unshared diagram (attributes_of diagram) plan → AreMultiplied diagram plan netlist → ArePipelined diagram plan netlist places → HasPorts diagram plan times netlist places → IsEmittable netlist
+pub finished : (diagram : Diagram) (plan : Resolved) (times : Times) (places : Places) (place_of : ℕ → ℕ) (hubs : ℕ)
+    (netlist : Circuit) (level : ℕ → ℕ) → 0 < netlist.cycles
+    → IsUnderWay diagram (timing_by diagram plan times) places place_of hubs hubs netlist level
+    (length diagram.blocks)
+    → HaveUnits diagram plan times places hubs hubs netlist
+    → length (multipliers netlist) ≡ units_in_all diagram (attributes_of diagram) plan times
+    → length (others netlist) ≡ unshared diagram (attributes_of diagram) plan
+    → AreMultiplied diagram plan netlist → ArePipelined diagram plan netlist places
+    → HasPorts diagram plan times netlist places → IsEmittable netlist
     → register_count netlist.nets + counter_count netlist.nets ≤ chained diagram (attributes_of diagram) plan times → IsDone diagram plan times places hubs netlist
 finished diagram plan times places place_of hubs netlist level some way units shared own multiplied pipelined ports emittable few = record {
   facts = way.facts;

@@ -31,7 +31,9 @@ rate_lag delay source false false e = refl
 rate_lag delay source true false e = absurd (false≢true e)
 rate_lag delay source false true e = absurd (false≢true (sym e))
 
-lag_told : (source own delay : ℕ) (reading : Reading) (enable : Option ℕ) (slower : Bool) → (joins_periods reading ≡ false → own ≡ source) → (joins_periods reading ≡ true → enable ≡ None) → is_now reading slower ≡ is_now reading (nat_lt own source)
+lag_told : (source own delay : ℕ) (reading : Reading) (enable : Option ℕ) (slower : Bool)
+    → (joins_periods reading ≡ false → own ≡ source) → (joins_periods reading ≡ true → enable ≡ None)
+    → is_now reading slower ≡ is_now reading (nat_lt own source)
     → lag_of reading delay enable slower source ≡ lag_by (is_free enable && not (is_now reading (nat_lt own source))) (behind reading delay own source)
 lag_told source own delay Reading.Now None slower same free now = refl
 lag_told source own delay Reading.Now (Some control) slower same free now = refl
@@ -41,18 +43,29 @@ lag_told source own delay Reading.BeforeIfSlower None slower same free now = rat
 lag_told source own delay Reading.BeforeIfSlower (Some control) slower same free now = absurd (none-some control (sym (free refl)))
 
 -- of a line
-pub lag_is : (diagram : Diagram) (block : ℕ) (b : Block) (port from from_port source own : ℕ) → IsChecked diagram → slice_get diagram.blocks block ≡ Some b → JoinsPeriods diagram (record { from = from; from_port = from_port; to = block; target = Port port }) b source own
+pub lag_is : (diagram : Diagram) (block : ℕ) (b : Block) (port from from_port source own : ℕ) → IsChecked diagram
+    → slice_get diagram.blocks block ≡ Some b
+    → JoinsPeriods diagram
+    (record { from = from; from_port = from_port; to = block; target = Port port }) b source own
     → lag_into diagram (attributes_of diagram) block b (Port port) source ≡ lag_by (is_registered b own source) (behind (row_of b.kind).timing.reads (row_of b.kind).timing.delay own source)
 lag_is diagram block b port from from_port source own checked at joins =
-    lag_told source own (row_of b.kind).timing.delay (row_of b.kind).timing.reads b.enable (is_slow_to_fast (period_into diagram (attributes_of diagram) block 1) ((attributes_of diagram).period_at block)) joins.same (free_of_control diagram block b checked.wired at) joins.now
+    lag_told source own (row_of b.kind).timing.delay (row_of b.kind).timing.reads b.enable
+    (is_slow_to_fast (period_into diagram (attributes_of diagram) block 1)
+    ((attributes_of diagram).period_at block)) joins.same
+    (free_of_control diagram block b checked.wired at) joins.now
 
 added_by : (b : Bool) (lag : ℕ) → (is_some (lag_by b lag) ≡ b) × (added (lag_by b lag) ≡ (if b then lag else 0))
 added_by true lag = (refl, refl)
 added_by false lag = (refl, refl)
 
 -- it has registers where it is registered, and these add its slack
-pub lag_is_slack : (diagram : Diagram) (block : ℕ) (b : Block) (port from from_port source own : ℕ) → IsChecked diagram → slice_get diagram.blocks block ≡ Some b → JoinsPeriods diagram (record { from = from; from_port = from_port; to = block; target = Port port }) b source own
-    → (is_some (lag_into diagram (attributes_of diagram) block b (Port port) source) ≡ is_registered b own source) × (added (lag_into diagram (attributes_of diagram) block b (Port port) source) ≡ slack_into (is_registered b own source) b own source)
+pub lag_is_slack : (diagram : Diagram) (block : ℕ) (b : Block) (port from from_port source own : ℕ)
+    → IsChecked diagram → slice_get diagram.blocks block ≡ Some b
+    → JoinsPeriods diagram
+    (record { from = from; from_port = from_port; to = block; target = Port port }) b source own
+    → (is_some (lag_into diagram (attributes_of diagram) block b (Port port) source) ≡ is_registered b own source)
+    × (added (lag_into diagram (attributes_of diagram) block b (Port port) source)
+    ≡ slack_into (is_registered b own source) b own source)
 lag_is_slack diagram block b port from from_port source own checked at joins =
     let e = lag_is diagram block b port from from_port source own checked at joins in
     let by = added_by (is_registered b own source) (behind (row_of b.kind).timing.reads (row_of b.kind).timing.delay own source) in

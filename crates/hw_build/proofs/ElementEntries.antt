@@ -43,14 +43,17 @@ NotMultiply (Counter frame) = ⊤
 abbrev pub IsQuiet : Diagram → Timing → ℕ → NetKind → Type 0
 IsQuiet diagram timing block kind = IsEntryPart diagram timing block kind × NotMultiply kind
 
-pub quiet_multiply : (diagram : Diagram) (timing : Timing) (block : ℕ) (before after : Circuit) (named : List ℕ) (count : ℕ) → Grows before after named (IsQuiet diagram timing block) count → IsOwnMultiply before after None
+pub quiet_multiply : (diagram : Diagram) (timing : Timing) (block : ℕ) (before after : Circuit) (named : List ℕ)
+    (count : ℕ) → Grows before after named (IsQuiet diagram timing block) count → IsOwnMultiply before after None
 quiet_multiply diagram timing block before after named count grows = record {
   one = λ k e. absurd (none-some k e);
   no_other = λ k past comb. absurd (subst NotMultiply comb.kind (grows.parts k comb.net past comb.is).1 refl);
 }
 
 -- what a call names may be more
-pub grows_naming : (before after : Circuit) (named more : List ℕ) (part : NetKind → Type 0) (count : ℕ) → ((read : ℕ) → Contains named read → Contains more read) → Grows before after named part count → Grows before after more part count
+pub grows_naming : (before after : Circuit) (named more : List ℕ) (part : NetKind → Type 0) (count : ℕ)
+    → ((read : ℕ) → Contains named read → Contains more read) → Grows before after named part count
+    → Grows before after more part count
 grows_naming before after named more part count names grows =
     subst (Grows before after more part) e (grows_then before before after more named part part 0 count (λ read is. inl (names read is)) (λ kind is. is) (grows-self before more part) grows)
   where
@@ -63,9 +66,15 @@ none_named more read is = absurd (omega (arith, is.1))
 -- ---- an element without a multiplication
 
 module _ (diagram : Diagram) (timing : Timing) (before after : Circuit) (block : ℕ) (b : Block) (port element : ℕ) (operands : List ℕ) (entry : Entry) where
-  pub quiet_entry : (kind : Kind) (count : ℕ) → b.kind ≡ kind → Grows before after operands (IsQuiet diagram timing block) count → count ≤ kept_each diagram block b → entry.multiply ≡ None → multiply_at (length before.nets) kind ≡ None
-      → HasWord after.nets entry.net (width_of ((attributes_of diagram).type_at block port)) (is_signed ((attributes_of diagram).type_at block port)) → Contains operands entry.net ⊎ (length before.nets ≤ entry.net)
-      → (keeps_entry b.enable (period_into diagram (attributes_of diagram) block 1) kind ≡ true → IsHeldAt before after entry.net) → IsMadeBy diagram timing before after block b port element operands entry
+  pub quiet_entry : (kind : Kind) (count : ℕ) → b.kind ≡ kind
+      → Grows before after operands (IsQuiet diagram timing block) count → count ≤ kept_each diagram block b
+      → entry.multiply ≡ None → multiply_at (length before.nets) kind ≡ None
+      → HasWord after.nets entry.net (width_of ((attributes_of diagram).type_at block port))
+      (is_signed ((attributes_of diagram).type_at block port))
+      → Contains operands entry.net ⊎ (length before.nets ≤ entry.net)
+      → (keeps_entry b.enable (period_into diagram (attributes_of diagram) block 1) kind ≡ true
+      → IsHeldAt before after entry.net)
+      → IsMadeBy diagram timing before after block b port element operands entry
       → PutsEntry diagram timing before after block b port element operands entry
   quiet_entry kind count is grows few none absent word stands held made = record {
     count = count;
@@ -80,7 +89,9 @@ module _ (diagram : Diagram) (timing : Timing) (before after : Circuit) (block :
   }
 
 -- a net in the word of a type
-pub typed_net : (before after : Circuit) (word : Word) (type : FxType) (kind : NetKind) → word ≡ record { signed = is_signed type; width = width_of type } → after ≡ with_net before (record { signed = word.signed; width = word.width; kind = kind })
+pub typed_net : (before after : Circuit) (word : Word) (type : FxType) (kind : NetKind)
+    → word ≡ record { signed = is_signed type; width = width_of type }
+    → after ≡ with_net before (record { signed = word.signed; width = word.width; kind = kind })
     → after ≡ with_net before (record { signed = is_signed type; width = width_of type; kind = kind })
 typed_net before after word type kind is grown = subst (λ (w : Word). after ≡ with_net before (record { signed = w.signed; width = w.width; kind = kind })) is grown
 
@@ -94,7 +105,9 @@ module _ (before after : Circuit) (type : FxType) (value : ℤ) (is_type : IsTyp
     pub const_grows : (diagram : Diagram) (timing : Timing) (block : ℕ) (operands : List ℕ) → Grows before after operands (IsQuiet diagram timing block) 0
     const_grows diagram timing block operands =
         grows_naming before after [] operands (IsQuiet diagram timing block) 0 (none_named operands)
-        (comb_grows before after (Const value) [] (is_signed type) (width_of type) (IsQuiet diagram timing block) grown (type-word type is_type) (refl, tt) (λ read is. absurd (omega (arith, is.1))) (tt, λ e. cc))
+        (comb_grows before after (Const value) [] (is_signed type) (width_of type)
+        (IsQuiet diagram timing block) grown (type-word type is_type) (refl, tt)
+        (λ read is. absurd (omega (arith, is.1))) (tt, λ e. cc))
 
     pub const_word : (number : ℕ) → number ≡ length before.nets → HasWord after.nets number (width_of type) (is_signed type)
     const_word number at = subst (λ (n : ℕ). HasWord after.nets n (width_of type) (is_signed type)) (sym at) (put_word before after const_net grown)
@@ -102,4 +115,6 @@ module _ (before after : Circuit) (type : FxType) (value : ℤ) (is_type : IsTyp
     pub const_shows : (closed hubs number : ℕ) → number ≡ length before.nets → hubs ≤ length before.nets → InLater closed hubs after (λ n rows. AreSame n (rows number) (steady value))
     const_shows closed hubs number at small =
         subst (λ (k : ℕ). InLater closed hubs after (λ n rows. AreSame n (rows k) (steady value))) (sym at)
-        (constant closed hubs after (length before.nets) value const_net (record { at = put-there before after const_net grown; settled = inr small }) refl (type-word type is_type) (range-word type value range))
+        (constant closed hubs after (length before.nets) value const_net
+        (record { at = put-there before after const_net grown; settled = inr small }) refl
+        (type-word type is_type) (range-word type value range))

@@ -33,7 +33,9 @@ use Rattle.hw_build.proofs.Steps.{piped_some, piped_none}
 
 module _ (diagram : Diagram) (timing : Timing) (places : Places) (closed hubs : ℕ) (now : Circuit) (block port element : ℕ) where
   -- a pipeline by its nets: the net that readers name passes the last on, the first one the element, and between them stand registers
-  pub piped_by : (period entry begin end : ℕ) → (attributes_of diagram).period_at block ≡ Some period → places.entry block port element ≡ entry → ((k : ℕ) → places.stage block port element k ≡ begin + k) → end ≡ begin + timing.stages block
+  pub piped_by : (period entry begin end : ℕ) → (attributes_of diagram).period_at block ≡ Some period
+      → places.entry block port element ≡ entry → ((k : ℕ) → places.stage block port element k ≡ begin + k)
+      → end ≡ begin + timing.stages block
       → InLater closed hubs now (λ n rows. AreSame n (rows (places.after block port element)) (rows end)) → InLater closed hubs now (λ n rows. AreSame n (rows begin) (rows entry))
       → ((k : ℕ) → k < timing.stages block → InLater closed hubs now (λ n rows. IsReg n (span_at timing period block) (period * timing.cycles - 1) (pos 0) (rows (begin + k)) (rows (begin + suc k))))
       → IsElementPiped diagram timing places closed hubs now block port element
@@ -49,14 +51,21 @@ module _ (diagram : Diagram) (timing : Timing) (places : Places) (closed hubs : 
           };
           takes = λ k below.
               subst (λ (x : ℕ). IsReg n (span_at timing period block) (period * timing.cycles - 1) (pos 0) (rows x) (rows (places.stage block port element (suc k)))) (sym (stage_is k))
-              (subst (λ (x : ℕ). IsReg n (span_at timing period block) (period * timing.cycles - 1) (pos 0) (rows (begin + k)) (rows x)) (sym (stage_is (suc k))) ((takes k below).holds later goes n inputs rows are));
+              (subst (λ (x : ℕ). IsReg n (span_at timing period block) (period * timing.cycles - 1) (pos 0)
+              (rows (begin + k)) (rows x)) (sym (stage_is (suc k)))
+              ((takes k below).holds later goes n inputs rows are));
         };
       })
 
   -- where there are none, the net that readers name passes the element on
-  pub unpiped_by : (entry : ℕ) → places.entry block port element ≡ entry → ((k : ℕ) → places.stage block port element k ≡ entry + k) → (period : Option ℕ) → (attributes_of diagram).period_at block ≡ period → (timing.stages block ≡ 0) ⊎ (period ≡ None)
+  pub unpiped_by : (entry : ℕ) → places.entry block port element ≡ entry
+      → ((k : ℕ) → places.stage block port element k ≡ entry + k) → (period : Option ℕ)
+      → (attributes_of diagram).period_at block ≡ period → (timing.stages block ≡ 0) ⊎ (period ≡ None)
       → InLater closed hubs now (λ n rows. AreSame n (rows (places.after block port element)) (rows entry)) → IsElementPiped diagram timing places closed hubs now block port element
-  unpiped_by entry entry_is stage_is None is reason last = piped_none diagram timing places closed hubs now block port element is (subst (λ (x : ℕ). InLater closed hubs now (λ n rows. AreSame n (rows (places.after block port element)) (rows x))) (sym entry_is) last)
+  unpiped_by entry entry_is stage_is None is reason last =
+      piped_none diagram timing places closed hubs now block port element is
+      (subst (λ (x : ℕ). InLater closed hubs now
+      (λ n rows. AreSame n (rows (places.after block port element)) (rows x))) (sym entry_is) last)
   unpiped_by entry entry_is stage_is (Some period) is (inr none) last = absurd (none-some period (sym none))
   unpiped_by entry entry_is stage_is (Some period) is (inl none) last =
       piped_by period entry entry entry is entry_is stage_is (omega (arith, none)) last
@@ -65,12 +74,20 @@ module _ (diagram : Diagram) (timing : Timing) (places : Places) (closed hubs : 
 
 -- ---- an element, its pipeline and its net
 
-module _ (diagram : Diagram) (timing : Timing) (places : Places) (place_of : ℕ → ℕ) (begun : ℕ) (start : Circuit) (closed hubs : ℕ) (before middle after : Circuit) (level : ℕ → ℕ) (block : ℕ) (b : Block) (port element entry : ℕ) (piped : Piped)
-    (going : IsGoing diagram timing places place_of begun start closed hubs before level) (shown : IsShown diagram (attributes_of diagram) block b port element) (here : places.after block port element ≡ closed) (high : closed < hubs)
+module _ (diagram : Diagram) (timing : Timing) (places : Places) (place_of : ℕ → ℕ) (begun : ℕ) (start : Circuit)
+    (closed hubs : ℕ) (before middle after : Circuit) (level : ℕ → ℕ) (block : ℕ) (b : Block)
+    (port element entry : ℕ) (piped : Piped)
+    (going : IsGoing diagram timing places place_of begun start closed hubs before level)
+    (shown : IsShown diagram (attributes_of diagram) block b port element)
+    (here : places.after block port element ≡ closed) (high : closed < hubs)
     (typed : IsWord (width_of ((attributes_of diagram).type_at block 1)) (is_signed ((attributes_of diagram).type_at block 1)))
     (has : HasWord before.nets entry (width_of ((attributes_of diagram).type_at block 1)) (is_signed ((attributes_of diagram).type_at block 1))) (low : level entry ≤ own_level (place_of block))
-    (made : IsElementMade diagram timing places closed hubs before block b port element) (entry_is : places.entry block port element ≡ entry) (stage_is : (k : ℕ) → places.stage block port element k ≡ piped.begin + k)
-    (alone : (other : ℕ) (q : Block) (outer member : ℕ) → IsShown diagram (attributes_of diagram) other q outer member → places.after other outer member ≡ closed → (block ≡ other) × (port ≡ outer) × (element ≡ member))
+    (made : IsElementMade diagram timing places closed hubs before block b port element)
+    (entry_is : places.entry block port element ≡ entry)
+    (stage_is : (k : ℕ) → places.stage block port element k ≡ piped.begin + k)
+    (alone : (other : ℕ) (q : Block) (outer member : ℕ)
+    → IsShown diagram (attributes_of diagram) other q outer member → places.after other outer member ≡ closed
+    → (block ≡ other) × (port ≡ outer) × (element ≡ member))
     (is : IsConnected middle after closed piped.end) where
   abbrev type : FxType
   type = (attributes_of diagram).type_at block 1
@@ -95,7 +112,9 @@ module _ (diagram : Diagram) (timing : Timing) (places : Places) (place_of : ℕ
         λ k within. refl,
       )
 
-  module _ (period : ℕ) (some : 0 < period) (is_period : (attributes_of diagram).period_at block ≡ Some period) (adds : AddsPipeline timing before middle type block element period entry piped.begin) (ends : piped.end ≡ piped.begin + timing.stages block) (any : 0 < timing.stages block) where
+  module _ (period : ℕ) (some : 0 < period) (is_period : (attributes_of diagram).period_at block ≡ Some period)
+      (adds : AddsPipeline timing before middle type block element period entry piped.begin)
+      (ends : piped.end ≡ piped.begin + timing.stages block) (any : 0 < timing.stages block) where
     abbrev own : ℕ
     own = own_level (place_of block)
 
@@ -127,7 +146,8 @@ module _ (diagram : Diagram) (timing : Timing) (places : Places) (place_of : ℕ
         goes_then closed hubs before bare_now middle goes (record { cycles = count; nets = λ k within. inl (ap (λ (all : List Net). slice_get all k) nets) })
 
     size : length middle.nets ≡ suc (piped.begin + timing.stages block)
-    size = ap length (bare_nets timing before middle type block element period entry piped.begin adds typed some inside) ∙ bare_size timing before middle type block element period entry piped.begin adds typed some inside
+    size = ap length (bare_nets timing before middle type block element period entry piped.begin adds typed some
+        inside) ∙ bare_size timing before middle type block element period entry piped.begin adds typed some inside
 
     begin_past : hubs ≤ piped.begin
     begin_past = let small = going.way.hubs_are.there in let h = begin_new timing before middle type block element period entry piped.begin adds typed some inside in omega (arith, small, h)
@@ -135,7 +155,10 @@ module _ (diagram : Diagram) (timing : Timing) (places : Places) (place_of : ℕ
     -- a net of the pipeline, in the end
     at_end : (k : ℕ) (net : Net) → hubs ≤ k → slice_get bare_now.nets k ≡ Some net → IsSettled (suc closed) hubs after k net
     at_end k net past at = record {
-      at = connected_elsewhere middle after closed piped.end k is (λ e. absurd (omega (arith, e, past, high))) ∙ ap (λ (all : List Net). slice_get all k) (bare_nets timing before middle type block element period entry piped.begin adds typed some inside) ∙ at;
+      at = connected_elsewhere middle after closed piped.end k is (λ e. absurd (omega (arith, e, past, high)))
+          ∙ ap (λ (all : List Net). slice_get all k)
+          (bare_nets timing before middle type block element period entry piped.begin adds typed some inside)
+          ∙ at;
       settled = inr past;
     }
 
@@ -167,11 +190,18 @@ module _ (diagram : Diagram) (timing : Timing) (places : Places) (place_of : ℕ
         (at_end piped.begin (wire_of type entry) begin_past (wire_at timing before middle type block element period entry piped.begin adds typed some inside)) refl refl refl typed
         (word_later closed hubs middle after entry _ _ goes_on (word_later closed hubs before middle entry _ _ goes_middle has))
 
-    takes : (k : ℕ) → k < timing.stages block → InLater (suc closed) hubs after (λ n rows. IsReg n (span_at timing period block) (period * timing.cycles - 1) (pos 0) (rows (piped.begin + k)) (rows (piped.begin + suc k)))
+    takes : (k : ℕ) → k < timing.stages block
+        → InLater (suc closed) hubs after (λ n rows. IsReg n (span_at timing period block)
+        (period * timing.cycles - 1) (pos 0) (rows (piped.begin + k)) (rows (piped.begin + suc k)))
     takes k below =
         let past = begin_past in
-        registered (suc closed) hubs after (piped.begin + suc k) (period * timing.cycles - 1) (piped.begin + k) period block (pos 0) timing (stage_net type (own_frame timing period block) (period * timing.cycles - 1) (piped.begin + k))
-        (at_end (piped.begin + suc k) (stage_net type (own_frame timing period block) (period * timing.cycles - 1) (piped.begin + k)) (omega (arith, past)) (stage_at timing before middle type block element period entry piped.begin adds typed some inside k below)) after_cycles refl
+        registered (suc closed) hubs after (piped.begin + suc k) (period * timing.cycles - 1)
+        (piped.begin + k) period block (pos 0) timing
+        (stage_net type (own_frame timing period block) (period * timing.cycles - 1) (piped.begin + k))
+        (at_end (piped.begin + suc k) (stage_net type (own_frame timing period block) (period * timing.cycles - 1)
+        (piped.begin + k)) (omega (arith, past))
+        (stage_at timing before middle type block element period entry piped.begin adds typed some inside k
+        below)) after_cycles refl
 
     pipeline : IsElementPiped diagram timing places (suc closed) hubs after block port element
     pipeline =
@@ -182,13 +212,19 @@ module _ (diagram : Diagram) (timing : Timing) (places : Places) (place_of : ℕ
     closed_staged =
         let past = begin_new timing before middle type block element period entry piped.begin adds typed some inside in (
           next,
-          going_by_connect diagram timing places place_of hubs begun start closed piped.end middle after next block b port element going_middle shown here high typed is (slice_get_within middle.nets piped.end middle_word.net middle_word.is)
-              (new_level before bare_now level own piped.end (omega (arith, past, ends))) alone (made_later diagram timing places place_of hubs begun start closed closed before middle block b port element (omega arith) goes_middle made) pipeline,
+          going_by_connect diagram timing places place_of hubs begun start closed piped.end middle after next block
+              b port element going_middle shown here high typed is
+              (slice_get_within middle.nets piped.end middle_word.net middle_word.is)
+              (new_level before bare_now level own piped.end (omega (arith, past, ends))) alone
+              (made_later diagram timing places place_of hubs begun start closed closed before middle block b
+              port element (omega arith) goes_middle made) pipeline,
           λ k within. level_stays before bare_now level own k within,
         )
 
   -- in both ways
-  closed_by : (period : Option ℕ) → (attributes_of diagram).period_at block ≡ period → ((p : ℕ) → period ≡ Some p → 0 < p) → (stages : ℕ) → timing.stages block ≡ stages → IsPipedBy diagram timing before middle block element entry piped → Closes
+  closed_by : (period : Option ℕ) → (attributes_of diagram).period_at block ≡ period
+      → ((p : ℕ) → period ≡ Some p → 0 < p) → (stages : ℕ) → timing.stages block ≡ stages
+      → IsPipedBy diagram timing before middle block element entry piped → Closes
   closed_by None is_period some stages are put = let plain = put.none (inr is_period) in closed_plain plain.0 plain.1 plain.2 (inr is_period)
   closed_by (Some p) is_period some zero are put = let plain = put.none (inl are) in closed_plain plain.0 plain.1 plain.2 (inl are)
   closed_by (Some p) is_period some (suc stages) are put =

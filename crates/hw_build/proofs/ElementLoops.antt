@@ -1,5 +1,6 @@
 -- An element that was put in by its own nets goes into the loops over blocks.
-use Rattle.std.proofs.Common.{◌≡◌, ℕ, zero, suc, ◌+◌, ◌-◌, ◌<◌, ◌≤◌, ◌⊎◌, ◌++◌, inl, inr, Bool, true, false, List, [], ◌∷◌, length, Contains, Option, Some, None, ap, sym, ◌∙◌, subst, refl, length-append, arith}
+use Rattle.std.proofs.Common.{◌≡◌, ℕ, zero, suc, ◌+◌, ◌-◌, ◌<◌, ◌≤◌, ◌⊎◌, ◌++◌, inl, inr, Bool, true, false, List, [], ◌∷◌, length, Contains, Option, Some, None, ap, sym, ◌∙◌, subst, refl}
+use Rattle.std.proofs.Common.{length-append, arith}
 use Rattle.std.specs.Prelude.{slice_get, ◌≢◌, ◌&&◌, not, if◌then◌else◌}
 use Rattle.std.specs.List.{flat_map}
 use Rattle.std.proofs.lemmas.Bool.{cases_Bool}
@@ -80,7 +81,9 @@ none_among (y ∷ ys) none =
     let sum = length-append (own_factors y.kind) (flat_map (λ (n : Net). own_factors n.kind) ys) in
     omega (arith, rest, here, sum)
 
-one_among : (ys : List Net) (j : ℕ) (y : Net) → slice_get ys j ≡ Some y → length (own_factors y.kind) ≡ 1 → ((i : ℕ) (z : Net) → i ≢ j → slice_get ys i ≡ Some z → own_factors z.kind ≡ []) → length (flat_map (λ (n : Net). own_factors n.kind) ys) ≡ 1
+one_among : (ys : List Net) (j : ℕ) (y : Net) → slice_get ys j ≡ Some y → length (own_factors y.kind) ≡ 1
+    → ((i : ℕ) (z : Net) → i ≢ j → slice_get ys i ≡ Some z → own_factors z.kind ≡ [])
+    → length (flat_map (λ (n : Net). own_factors n.kind) ys) ≡ 1
 one_among [] j y at one none = absurd (none-some y at)
 one_among (x ∷ ys) zero y at one none =
     let rest = none_among ys (λ i z there. none (suc i) z (λ e. absurd (omega (arith, e))) there) in
@@ -99,9 +102,13 @@ abbrev pub count_some : Option ℕ → ℕ
 count_some None = 0
 count_some (Some k) = 1
 
-pub own_next : (before after : Circuit) → Extends before after → (found : Option ℕ) → IsOwnMultiply before after found → ((k : ℕ) → found ≡ Some k → length before.nets ≤ k) → length (others after) ≡ length (others before) + count_some found
+pub own_next : (before after : Circuit) → Extends before after → (found : Option ℕ)
+    → IsOwnMultiply before after found → ((k : ℕ) → found ≡ Some k → length before.nets ≤ k)
+    → length (others after) ≡ length (others before) + count_some found
 own_next before after grown found is new =
-    let all : others after ≡ others before ++ flat_map (λ (n : Net). own_factors n.kind) grown.added = ap (flat_map (λ (n : Net). own_factors n.kind)) grown.nets ∙ flat_map-append (λ (n : Net). own_factors n.kind) before.nets grown.added in
+    let all : others after ≡ others before ++ flat_map (λ (n : Net). own_factors n.kind) grown.added =
+    ap (flat_map (λ (n : Net). own_factors n.kind)) grown.nets
+    ∙ flat_map-append (λ (n : Net). own_factors n.kind) before.nets grown.added in
     let count : length (others after) ≡ length (others before ++ flat_map (λ (n : Net). own_factors n.kind) grown.added) = ap length all in
     let sum = length-append (others before) (flat_map (λ (n : Net). own_factors n.kind) grown.added) in
     let added = by found refl in
@@ -123,7 +130,9 @@ own_next before after grown found is new =
         let low = new k e in
         let j : ℕ = k - length before.nets in
         let place : length before.nets + j ≡ k = omega (arith, low) in
-        let at : slice_get grown.added j ≡ Some comb.net = sym (ap (λ (all : List Net). slice_get all (length before.nets + j)) grown.nets ∙ get_right before.nets grown.added j) ∙ ap (slice_get after.nets) place ∙ comb.is in
+        let at : slice_get grown.added j ≡ Some comb.net =
+        sym (ap (λ (all : List Net). slice_get all (length before.nets + j)) grown.nets
+        ∙ get_right before.nets grown.added j) ∙ ap (slice_get after.nets) place ∙ comb.is in
         one_among grown.added j comb.net at (ap (λ (kind : NetKind). length (own_factors kind)) comb.kind)
         (λ i z differs there. none i z there (λ f. let same = same_Some k (length before.nets + i) (sym e ∙ f) in differs (omega (arith, same, place))))
         ∙ ap count_some (sym e)
@@ -144,7 +153,9 @@ part_units diagram timing block (Unit left right) is = absurd is
 part_units diagram timing block (Counter frame) is = refl
 
 -- a Counter's frame is that of the block
-pub part_frame : (setting : Setting) (block : ℕ) → block < length setting.design.checked.now.diagram.blocks → (kind : NetKind) (frame : Frame) → IsEntryPart setting.design.checked.now.diagram (timing_for setting.design) block kind → counted_frame kind ≡ Some frame
+pub part_frame : (setting : Setting) (block : ℕ) → block < length setting.design.checked.now.diagram.blocks
+    → (kind : NetKind) (frame : Frame) → IsEntryPart setting.design.checked.now.diagram
+    (timing_for setting.design) block kind → counted_frame kind ≡ Some frame
     → IsBlockFrame setting.design.checked.now.diagram setting.design.plan.now (times_for setting.design) block frame
 part_frame setting block below (Comb op args) frame is counts = absurd (none-some frame counts)
 part_frame setting block below (Reg own slot first from) frame is counts = absurd (none-some frame counts)
@@ -152,7 +163,9 @@ part_frame setting block below (EnReg own enable reset first from) frame is coun
 part_frame setting block below (Bridge own live from) frame is counts = absurd (none-some frame counts)
 part_frame setting block below (Unit left right) frame is counts = absurd (none-some frame counts)
 part_frame setting block below (Counter own) frame is counts =
-    subst (IsBlockFrame setting.design.checked.now.diagram setting.design.plan.now (times_for setting.design) block) (same_Some own frame counts) (record { there = below; period_is = is.period_is; latency_is = inl is.latency_is })
+    subst (IsBlockFrame setting.design.checked.now.diagram setting.design.plan.now (times_for setting.design) block)
+    (same_Some own frame counts)
+    (record { there = below; period_is = is.period_is; latency_is = inl is.latency_is })
 
 -- ---- into the loops
 
@@ -167,10 +180,18 @@ module _ (setting : Setting) (before after : Circuit) (block : ℕ) (b : Block) 
   abbrev drawn : Diagram
   drawn = setting.design.checked.now.diagram
 
-  pub entered_by : PutsEntry drawn (timing_for setting.design) before after block b port element operands entry → slice_get drawn.blocks block ≡ Some b → is_shared drawn (attributes_of drawn) setting.design.plan.now block ≡ false
-      → ((places : Places) → Fits setting places → AreOffered drawn places block b port element b.kind operands) → ((places : Places) → Fits setting places → HasFirst drawn block element b.kind (places.first block element)) → ((row_of b.kind).hardware.multiplies ≡ true → (timing_for setting.design).slot block element ≡ None)
+  pub entered_by : PutsEntry drawn (timing_for setting.design) before after block b port element operands entry
+      → slice_get drawn.blocks block ≡ Some b
+      → is_shared drawn (attributes_of drawn) setting.design.plan.now block ≡ false
+      → ((places : Places) → Fits setting places → AreOffered drawn places block b port element b.kind operands)
+      → ((places : Places) → Fits setting places
+      → HasFirst drawn block element b.kind (places.first block element))
+      → ((row_of b.kind).hardware.multiplies ≡ true
+      → (timing_for setting.design).slot block element ≡ None)
       → ((start : Circuit) → IsBegun setting start → length start.nets ≤ length before.nets → (read : ℕ) → Contains operands read → read < length start.nets)
-      → ((places : Places) (start : Circuit) (closed : ℕ) (level : ℕ → ℕ) → Fits setting places → IsGoingBy setting places start closed before level → StandLow setting before after level block operands entry)
+      → ((places : Places) (start : Circuit) (closed : ℕ) (level : ℕ → ℕ) → Fits setting places
+      → IsGoingBy setting places start closed before level
+      → StandLow setting before after level block operands entry)
       → IsEntered setting before after block b port element entry
   entered_by puts at unshared offered firsts slots below low =
       let count = puts.grows.registers in
@@ -201,7 +222,9 @@ module _ (setting : Setting) (before after : Circuit) (block : ℕ) (b : Block) 
             record {
               next = level_behind before after level l.own;
               going =
-                  going_by_call drawn (timing_for setting.design) places (place_in setting.design.checked.now.order) (hubs_in_all drawn) (length (root_inputs drawn (attributes_of drawn))) start closed l.own before after level operands going puts.grows.appends l.some l.named;
+                  going_by_call drawn (timing_for setting.design) places (place_in setting.design.checked.now.order)
+                  (hubs_in_all drawn) (length (root_inputs drawn (attributes_of drawn))) start closed l.own
+                  before after level operands going puts.grows.appends l.some l.named;
               low = l.answer;
               made = puts.made closed (hubs_in_all drawn) places going.way.hubs_are.there going.way.facts.cycles (offered places fits) named (firsts places fits) slots;
             };
@@ -211,14 +234,18 @@ module _ (setting : Setting) (before after : Circuit) (block : ℕ) (b : Block) 
       kind_of = ap multiplies_if at
 
       one_if : (t : Bool) → (row_of b.kind).hardware.multiplies ≡ t → products_by drawn setting.design.plan.now block ≡ (if t && true then 1 else 0)
-      one_if t e = ap (λ (x : Bool). if x && not (is_shared drawn (attributes_of drawn) setting.design.plan.now block) then 1 else 0) (kind_of ∙ e) ∙ ap (λ (x : Bool). if t && not x then 1 else 0) unshared
+      one_if t e = ap (λ (x : Bool). if x && not
+          (is_shared drawn (attributes_of drawn) setting.design.plan.now block) then 1 else 0) (kind_of ∙ e)
+          ∙ ap (λ (x : Bool). if t && not x then 1 else 0) unshared
 
       own_counted : length (others after) ≡ length (others before) + products_by drawn setting.design.plan.now block
       own_counted = elim (cases_Bool (row_of b.kind).hardware.multiplies) [
         | inl is ↦
             (let some = multiply_some (length before.nets) b.kind is in
             let told = puts.multiply ∙ some.1 in
-            let sum = own_next before after puts.grows.appends.extends entry.multiply puts.multiplies (λ k e. let same = same_Some some.0 k (sym told ∙ e) in let low_one = some.2 in omega (arith, same, low_one)) in
+            let sum = own_next before after puts.grows.appends.extends entry.multiply puts.multiplies
+            (λ k e. let same = same_Some some.0 k (sym told ∙ e) in let low_one =
+            some.2 in omega (arith, same, low_one)) in
             let one : count_some entry.multiply ≡ 1 = ap count_some told in
             let owned : products_by drawn setting.design.plan.now block ≡ 1 = one_if true is in
             omega (arith, sum, one, owned))

@@ -32,10 +32,15 @@ args_later closed hubs now later types args goes are = record {
 }
 
 -- of a call of `lower`
-pub lowered_by_call : (closed hubs : ℕ) (before after : Circuit) (operation : Operation) (args : List ℕ) (number : ℕ) → hubs ≤ length before.nets → AreArgs before operation.types args → Lowers before after operation args → IsLowered before after operation args number
+pub lowered_by_call : (closed hubs : ℕ) (before after : Circuit) (operation : Operation) (args : List ℕ)
+    (number : ℕ) → hubs ≤ length before.nets → AreArgs before operation.types args
+    → Lowers before after operation args → IsLowered before after operation args number
     → IsLoweredIn closed hubs after operation args number
 lowered_by_call closed hubs before after operation args number small are lowers lowered = record {
-  gives = in_call closed hubs before after (λ n rows. (clock : ℕ) → clock < n → AreInRange operation.types (values_at rows args clock) → OpGives operation (values_at rows args clock) (rows number clock)) small lowers.appends.extends lowered.gives;
+  gives = in_call closed hubs before after
+      (λ n rows. (clock : ℕ) → clock < n → AreInRange operation.types (values_at rows args clock)
+      → OpGives operation (values_at rows args clock) (rows number clock)) small lowers.appends.extends
+      lowered.gives;
   words = args_later closed hubs before after operation.types args (goes_appended closed hubs before after lowers.appends.extends) are;
 }
 
@@ -44,7 +49,9 @@ pub lowered_gives : (closed hubs : ℕ) (now : Circuit) (operation : Operation) 
     → InLater closed hubs now (λ n rows. (clock : ℕ) → clock < n → OpGives operation (values_at rows args clock) (rows number clock))
 lowered_gives closed hubs now operation args number is = record {
   holds = λ later goes n inputs rows are clock below.
-      is.gives.holds later goes n inputs rows are clock below (in_ranges later n inputs rows operation.types args are (args_later closed hubs now later operation.types args goes is.words) clock below);
+      is.gives.holds later goes n inputs rows are clock below
+      (in_ranges later n inputs rows operation.types args are
+      (args_later closed hubs now later operation.types args goes is.words) clock below);
 }
 
 module _ (diagram : Diagram) (attributes : Attributes) (timing : Timing) (places : Places) (closed hubs : ℕ) (now : Circuit) (block : ℕ) (b : Block) (port element : ℕ) where
@@ -57,7 +64,9 @@ module _ (diagram : Diagram) (attributes : Attributes) (timing : Timing) (places
       op = op;
       is = is_op;
       gives = λ t c below seen.
-          let given = (lowered_gives closed hubs now (operation_at diagram attributes block b op) (offered_args places block b element) (places.entry block port element) is).holds later goes n inputs rows are c below in
+          let given = (lowered_gives closed hubs now (operation_at diagram attributes block b op)
+          (offered_args places block b element) (places.entry block port element) is).holds later goes n inputs
+          rows are c below in
           subst (λ (values : List ℤ). OpGives (operation_at diagram attributes block b op) values (rows (places.entry block port element) c))
           (map-map (λ (net : ℕ). rows net c) (λ (input : ℕ). places.offered block input element) (numbers_from 1 b.inputs)) given;
     };
@@ -65,7 +74,9 @@ module _ (diagram : Diagram) (attributes : Attributes) (timing : Timing) (places
 
   -- the product of a shared multiplier, converted
   pub served : (slot : ℕ) (left right : Rows → Wave) (type other full : FxType) → IsFullProduct type other full
-      → ((period : ℕ) → attributes.period_at block ≡ Some period → InLater closed hubs now (λ n rows. IsProductAt n (span_at timing period block) slot (left rows) (right rows) (rows (places.product block element))))
+      → ((period : ℕ) → attributes.period_at block ≡ Some period
+      → InLater closed hubs now (λ n rows. IsProductAt n (span_at timing period block) slot (left rows)
+      (right rows) (rows (places.product block element))))
       → IsLoweredIn closed hubs now (conversion_of attributes block b full) (places.product block element ∷ []) (places.entry block port element)
       → InLater closed hubs now (λ n rows. IsServed diagram attributes timing n (waves_of places rows) block b port element slot (left rows) (right rows) type other)
   served slot left right type other full is_full product is = record {
@@ -73,6 +84,8 @@ module _ (diagram : Diagram) (attributes : Attributes) (timing : Timing) (places
       full = full;
       is_full = is_full;
       product = λ period e. (product period e).holds later goes n inputs rows are;
-      converts = λ c below. (lowered_gives closed hubs now (conversion_of attributes block b full) (places.product block element ∷ []) (places.entry block port element) is).holds later goes n inputs rows are c below;
+      converts = λ c below. (lowered_gives closed hubs now (conversion_of attributes block b full)
+          (places.product block element ∷ []) (places.entry block port element) is).holds later goes n inputs rows
+          are c below;
     };
   }

@@ -1,5 +1,6 @@
 -- What ends ask is put behind what others asked.
-use Rattle.std.proofs.Common.{◌≡◌, ℕ, zero, suc, ◌+◌, ◌-◌, ◌*◌, ◌<◌, ◌≤◌, inl, inr, pos, ◌++◌, ◌∷◌, ◌==◌, Bool, false, cond, List, [], length, map, Option, None, Some, ap, sym, ◌∙◌, subst, refl, arith}
+use Rattle.std.proofs.Common.{◌≡◌, ℕ, zero, suc, ◌+◌, ◌-◌, ◌*◌, ◌<◌, ◌≤◌, inl, inr, pos, ◌++◌, ◌∷◌, ◌==◌, Bool, false, cond, List, [], length, map, Option, None, Some, ap, sym, ◌∙◌, subst, refl}
+use Rattle.std.proofs.Common.{arith}
 use Rattle.std.specs.Prelude.{slice_get}
 use Rattle.std.proofs.lemmas.Bool.{eq-eqb, ne_eqb}
 use Rattle.std.proofs.lemmas.List.{append-nil}
@@ -41,7 +42,9 @@ wants_are asked f zero same = refl
 wants_are asked f (suc n) same =
     let rest = wants_are asked f n (λ element below. same element (omega (arith, below))) in
     let here : n ≡ 0 + n = omega arith in
-    ap (λ (xs : List Want). xs ++ want_list (asked n)) rest ∙ ap (λ (o : Option Want). map f (numbers_from 0 n) ++ want_list o) (same n (omega arith)) ∙ ap (λ (k : ℕ). map f (numbers_from 0 n) ++ f k ∷ []) here ∙ last_number f 0 n
+    ap (λ (xs : List Want). xs ++ want_list (asked n)) rest
+    ∙ ap (λ (o : Option Want). map f (numbers_from 0 n) ++ want_list o) (same n (omega arith))
+    ∙ ap (λ (k : ℕ). map f (numbers_from 0 n) ++ f k ∷ []) here ∙ last_number f 0 n
 
 none_wanted : (n : ℕ) → wants_below unasked n ≡ []
 none_wanted zero = refl
@@ -89,7 +92,9 @@ module _ {diagram : Diagram} {order : List ℕ} {plan : Resolved} {times : Times
       ap (uses_into diagram (attributes_of diagram) plan times edge p) at
       ∙ ap (λ (flag : Bool). cond flag [] (uses_by diagram (attributes_of diagram) plan times edge p b (is_registered b (samples (period edge.to)) p))) (eq-eqb (shown_ports b.kind b.outputs) 0 none)
 
-  pub nothing_put : (list : List Ask) (wants : List Want) (b : Block) (edge : LatencyEdge) → shown_ports b.kind b.outputs ≡ 0 → slice_get diagram.blocks edge.to ≡ Some b → IsEndPut diagram plan times firsts list list wants wants b edge
+  pub nothing_put : (list : List Ask) (wants : List Want) (b : Block) (edge : LatencyEdge)
+      → shown_ports b.kind b.outputs ≡ 0 → slice_get diagram.blocks edge.to ≡ Some b
+      → IsEndPut diagram plan times firsts list list wants wants b edge
   nothing_put list wants b edge none at =
       let count = count_none b edge none in
       record {
@@ -102,7 +107,9 @@ module _ {diagram : Diagram} {order : List ℕ} {plan : Resolved} {times : Times
 
   all_put : (old new : List Ask) (wants more : List Want) (b : Block) (edge : LatencyEdge) (hubs : ℕ → ℕ) (asked : ℕ → Option Want) (count : ℕ) → end_count diagram plan times firsts b edge ≡ count
       → ((element : ℕ) → element < count → IsAskAt diagram plan times firsts new more b edge (length old + element) element) → wants_below asked count ≡ edge_wants diagram plan times firsts edge
-      → ((net : Circuit) → HaveHubWords diagram firsts net → (element : ℕ) → element < count → IsAllowed net (asked element)) → AsksAll old new wants more hubs asked count → IsEndPut diagram plan times firsts old new wants more b edge
+      → ((net : Circuit) → HaveHubWords diagram firsts net → (element : ℕ) → element < count
+      → IsAllowed net (asked element)) → AsksAll old new wants more hubs asked count
+      → IsEndPut diagram plan times firsts old new wants more b edge
   all_put old new wants more b edge hubs asked count same elements wanted may all =
       let size = all.count_is in
       record {
@@ -113,7 +120,9 @@ module _ {diagram : Diagram} {order : List ℕ} {plan : Resolved} {times : Times
         allowed = λ net words are. all.allowed net (may net words) are;
       }
 
-  pub still_put : (old new : List Ask) (wants more : List Want) (b : Block) (edge : LatencyEdge) (first width : ℕ) → period edge.from ≡ None → end_count diagram plan times firsts b edge ≡ width → ((element : ℕ) → element < width → first + element ≡ hub_for diagram plan times firsts edge element)
+  pub still_put : (old new : List Ask) (wants more : List Want) (b : Block) (edge : LatencyEdge) (first width : ℕ)
+      → period edge.from ≡ None → end_count diagram plan times firsts b edge ≡ width
+      → ((element : ℕ) → element < width → first + element ≡ hub_for diagram plan times firsts edge element)
       → AsksAll old new wants more (hub_from first) unasked width → IsEndPut diagram plan times firsts old new wants more b edge
   still_put old new wants more b edge first width still count hub all =
       all_put old new wants more b edge (hub_from first) unasked width count
@@ -129,8 +138,13 @@ module _ {diagram : Diagram} {order : List ℕ} {plan : Resolved} {times : Times
     pub is : IsEndWant diagram timing edge.to b edge.target edge.from p (first_for diagram plan times firsts edge edge.target element) (hub_for diagram plan times firsts edge element) want
     pub may : (net : Circuit) → HaveHubWords diagram firsts net → IsWant net want
 
-  pub moving_put : (old new : List Ask) (wants more : List Want) (b : Block) (edge : LatencyEdge) (p count : ℕ) (hubs : ℕ → ℕ) (asked : ℕ → Option Want) → period edge.from ≡ Some p → end_count diagram plan times firsts b edge ≡ count
-      → ((element : ℕ) → element < count → IsElement hubs asked b edge p element) → wants_below asked count ≡ edge_wants diagram plan times firsts edge → AsksAll old new wants more hubs asked count → IsEndPut diagram plan times firsts old new wants more b edge
+  pub moving_put : (old new : List Ask) (wants more : List Want) (b : Block) (edge : LatencyEdge) (p count : ℕ)
+      (hubs : ℕ → ℕ) (asked : ℕ → Option Want) → period edge.from ≡ Some p
+      → end_count diagram plan times firsts b edge ≡ count
+      → ((element : ℕ) → element < count → IsElement hubs asked b edge p element)
+      → wants_below asked count ≡ edge_wants diagram plan times firsts edge
+      → AsksAll old new wants more hubs asked count
+      → IsEndPut diagram plan times firsts old new wants more b edge
   moving_put old new wants more b edge p count hubs asked moves same elements wanted all =
       all_put old new wants more b edge hubs asked count same
       (λ element inside.
@@ -139,25 +153,36 @@ module _ {diagram : Diagram} {order : List ℕ} {plan : Resolved} {times : Times
         p = p;
         moves = moves;
         want = one.want;
-        asked = subst (λ (h : ℕ). IsAskOf new more (length old + element) h (Some one.want)) one.hub (subst (λ (o : Option Want). IsAskOf new more (length old + element) (hubs element) o) one.asks (all.each element inside));
+        asked = subst (λ (h : ℕ). IsAskOf new more (length old + element) h (Some one.want)) one.hub
+            (subst (λ (o : Option Want). IsAskOf new more (length old + element) (hubs element) o) one.asks
+            (all.each element inside));
         is = one.is;
       }))
       wanted (λ net words element inside. let one = elements element inside in subst (λ (o : Option Want). IsAllowed net o) (sym one.asks) (one.may net words)) all
 
   -- the uses of an edge into a block that shows something
-  pub uses_are : (b : Block) (edge : LatencyEdge) (p own : ℕ) (registered : Bool) → period edge.from ≡ Some p → slice_get diagram.blocks edge.to ≡ Some b → 1 ≤ shown_ports b.kind b.outputs → period edge.to ≡ Some own → is_registered b own p ≡ registered
+  pub uses_are : (b : Block) (edge : LatencyEdge) (p own : ℕ) (registered : Bool) → period edge.from ≡ Some p
+      → slice_get diagram.blocks edge.to ≡ Some b → 1 ≤ shown_ports b.kind b.outputs → period edge.to ≡ Some own
+      → is_registered b own p ≡ registered
       → uses edge (period edge.from) ≡ uses_by diagram (attributes_of diagram) plan times edge p b registered
   uses_are b edge p own registered moves at shows period_is is =
       ap (uses edge) moves ∙ ap (uses_into diagram (attributes_of diagram) plan times edge p) at
       ∙ ap (λ (flag : Bool). cond flag [] (uses_by diagram (attributes_of diagram) plan times edge p b (is_registered b (samples (period edge.to)) p))) (shows_flag b shows)
-      ∙ ap (λ (o : Option ℕ). uses_by diagram (attributes_of diagram) plan times edge p b (is_registered b (samples o) p)) period_is ∙ ap (uses_by diagram (attributes_of diagram) plan times edge p b) is
+      ∙ ap (λ (o : Option ℕ). uses_by diagram (attributes_of diagram) plan times edge p b
+      (is_registered b (samples o) p)) period_is
+      ∙ ap (uses_by diagram (attributes_of diagram) plan times edge p b) is
 
   abbrev pub seen_by : LatencyEdge → ℕ
   seen_by edge = latency_at times.lat edge.to + (arc_between diagram (attributes_of diagram) plan times.fed edge.from edge.to).slack
 
   -- what a use asks of a chain
   pub use_is : (edge : LatencyEdge) (p own : ℕ) → period edge.from ≡ Some p → period edge.to ≡ Some own
-      → ◌≡◌ {A = Asked} (record { shift = shift_of diagram (attributes_of diagram) plan times edge; period = samples (period edge.to) }) (record { shift = seen_by edge - latency_after timing p edge.from; period = own })
+      → ◌≡◌ {A = Asked} (record {
+        shift = shift_of diagram (attributes_of diagram) plan times edge;
+        period =
+            samples (period edge.to);
+      })
+      (record { shift = seen_by edge - latency_after timing p edge.from; period = own })
   use_is edge p own moves period_is =
       ap (λ (o : Option ℕ). record { shift = seen_by edge - (latency_at times.lat edge.from + stages_at plan edge.from * samples o); period = samples (period edge.to) }) moves
       ∙ ap (λ (o : Option ℕ). record { shift = seen_by edge - latency_after timing p edge.from; period = samples o }) period_is

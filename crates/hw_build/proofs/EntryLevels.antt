@@ -38,7 +38,9 @@ most_at level [] k d below = absurd (omega (arith, below))
 most_at level (read ∷ reads) zero d below = omega arith
 most_at level (read ∷ reads) (suc k) d below = let more = most_at level reads k d (omega (arith, below)) in omega (arith, more)
 
-module _ (diagram : Diagram) (timing : Timing) (places : Places) (place_of : ℕ → ℕ) (closed hubs count : ℕ) (before after : Circuit) (level : ℕ → ℕ) (named : List ℕ) (number : ℕ) (way : IsUnderWay diagram timing places place_of closed hubs before level count)
+module _ (diagram : Diagram) (timing : Timing) (places : Places) (place_of : ℕ → ℕ) (closed hubs count : ℕ)
+    (before after : Circuit) (level : ℕ → ℕ) (named : List ℕ) (number : ℕ)
+    (way : IsUnderWay diagram timing places place_of closed hubs before level count)
     (few : length before.inputs ≤ length (root_inputs diagram (attributes_of diagram))) (appends : Appends before after named)
   where
     few_after : length after.inputs ≤ length (root_inputs diagram (attributes_of diagram))
@@ -47,6 +49,10 @@ module _ (diagram : Diagram) (timing : Timing) (places : Places) (place_of : ℕ
     -- a call all of whose nets stand on a level at the most
     pub goes_on : (own : ℕ) → 1 ≤ own → ((read : ℕ) → Contains named read → (read < length before.nets) × (level read ≤ own)) → Contains named number ⊎ (length before.nets ≤ number)
         → IsUnderWay diagram timing places place_of closed hubs after (level_behind before after level own) count × (level_behind before after level own number ≤ own)
-    goes_on own some low stands = (by_call diagram timing places place_of hubs closed count own before after level named way appends few_after some low, result_level before after level own number named low stands)
+    goes_on own some low stands = (
+      by_call diagram timing places place_of hubs closed count own before after level
+          named way appends few_after some low,
+      result_level before after level own number named low stands,
+    )
 
 -- an element that reads in its own clock what stands no higher than it, and one whose net is a register

@@ -37,16 +37,21 @@ use Rattle.hw_build.proofs.Multipliers.{is_product, multiplies_input, product_in
 
 -- ---- what was gathered stays
 
-second_stays : (diagram : Diagram) (offered : ℕ → ℕ → ℕ → ℕ) (a b c d : Circuit) (block element number : ℕ) (rule : FullRule) → Extends a b → Extends c d → IsSecond diagram offered b c block element rule number → IsSecond diagram offered a d block element rule number
+second_stays : (diagram : Diagram) (offered : ℕ → ℕ → ℕ → ℕ) (a b c d : Circuit) (block element number : ℕ)
+    (rule : FullRule) → Extends a b → Extends c d → IsSecond diagram offered b c block element rule number
+    → IsSecond diagram offered a d block element rule number
 second_stays diagram offered a b c d block element number FullRule.NoFull before after is = is
 second_stays diagram offered a b c d block element number (FullRule.FullSum negative accum) before after is = is
-second_stays diagram offered a b c d block element number (FullRule.FullScaled value spec) before after is = coefficient_stays a b c d value element ((attributes_of diagram).param_at block) number before after is
+second_stays diagram offered a b c d block element number (FullRule.FullScaled value spec) before after is =
+    coefficient_stays a b c d value element ((attributes_of diagram).param_at block) number before after is
 second_stays diagram offered a b c d block element number FullRule.FullProduct before after is = is
 second_stays diagram offered a b c d block element number FullRule.UnionOfTwo before after is = is
 second_stays diagram offered a b c d block element number FullRule.UnionOfEnds before after is = is
 
 module _ (diagram : Diagram) (plan : Resolved) (times : Times) (offered : ℕ → ℕ → ℕ → ℕ) where
-  gathered_stays : (a b c d : Circuit) (number : ℕ) (o : Shared) (one : Operation) → Extends a b → Extends c d → IsGathered diagram plan times offered b c number o one → IsGathered diagram plan times offered a d number o one
+  gathered_stays : (a b c d : Circuit) (number : ℕ) (o : Shared) (one : Operation) → Extends a b → Extends c d
+      → IsGathered diagram plan times offered b c number o one
+      → IsGathered diagram plan times offered a d number o one
   gathered_stays a b c d number o one before after is = record {
     frame = is.frame;
     slot = is.slot;
@@ -63,7 +68,9 @@ module _ (diagram : Diagram) (plan : Resolved) (times : Times) (offered : ℕ �
     each = λ k o one past is at. let inside = slice_get_within old k one at in absurd (omega (arith, past, inside, size));
   }
 
-  pub gathers_one : (a b : Circuit) (old : List Operation) (count : ℕ) (o : Shared) (one : Operation) → length old ≡ count → IsOperation diagram (attributes_of diagram) plan count o → AddsConstants a b → IsGathered diagram plan times offered a b count o one
+  pub gathers_one : (a b : Circuit) (old : List Operation) (count : ℕ) (o : Shared) (one : Operation)
+      → length old ≡ count → IsOperation diagram (attributes_of diagram) plan count o → AddsConstants a b
+      → IsGathered diagram plan times offered a b count o one
       → GathersMore diagram plan times offered a b old (old ++ one ∷ []) count 1
   gathers_one a b old count o one size is adds gathered = record {
     adds = adds;
@@ -80,7 +87,9 @@ module _ (diagram : Diagram) (plan : Resolved) (times : Times) (offered : ℕ �
     ];
   }
 
-  pub gathers_then : (a b c : Circuit) (old mid new : List Operation) (count more rest : ℕ) → GathersMore diagram plan times offered a b old mid count more → GathersMore diagram plan times offered b c mid new (count + more) rest
+  pub gathers_then : (a b c : Circuit) (old mid new : List Operation) (count more rest : ℕ)
+      → GathersMore diagram plan times offered a b old mid count more
+      → GathersMore diagram plan times offered b c mid new (count + more) rest
       → GathersMore diagram plan times offered a c old new count (more + rest)
   gathers_then a b c old mid new count more rest p q = record {
     adds = adds_then a b c p.adds q.adds;
@@ -97,7 +106,9 @@ module _ (diagram : Diagram) (plan : Resolved) (times : Times) (offered : ℕ �
 pub firsts_none : (diagram : Diagram) (plan : Resolved) → AreFirsts diagram plan [] 0
 firsts_none diagram plan = record { size = refl; each = λ block below. absurd (omega (arith, below)) }
 
-pub firsts_more : (diagram : Diagram) (plan : Resolved) (firsts : List (Option ℕ)) (count : ℕ) (first : Option ℕ) → AreFirsts diagram plan firsts count → first ≡ if_shared (is_shared diagram (attributes_of diagram) plan count) (first_operation diagram plan count)
+pub firsts_more : (diagram : Diagram) (plan : Resolved) (firsts : List (Option ℕ)) (count : ℕ) (first : Option ℕ)
+    → AreFirsts diagram plan firsts count → first
+    ≡ if_shared (is_shared diagram (attributes_of diagram) plan count) (first_operation diagram plan count)
     → AreFirsts diagram plan (firsts ++ first ∷ []) (count + 1)
 firsts_more diagram plan firsts count first are is = record {
   size = let e = length-append firsts (first ∷ []) in let size = are.size in omega (arith, e, size);
@@ -115,19 +126,27 @@ firsts_more diagram plan firsts count first are is = record {
 -- ---- blocks that multiply
 
 -- a shared block multiplies
-pub shared_multiplies : (diagram : Diagram) (plan : Resolved) (block : ℕ) (b : Block) → slice_get diagram.blocks block ≡ Some b → is_shared diagram (attributes_of diagram) plan block ≡ true → (row_of b.kind).hardware.multiplies ≡ true
+pub shared_multiplies : (diagram : Diagram) (plan : Resolved) (block : ℕ) (b : Block)
+    → slice_get diagram.blocks block ≡ Some b → is_shared diagram (attributes_of diagram) plan block ≡ true
+    → (row_of b.kind).hardware.multiplies ≡ true
 shared_multiplies diagram plan block b at shared = ap multiplies_if (sym at) ∙ (and_parts (multiplies diagram block) (shares plan ((attributes_of diagram).period_at block)) shared).0
 
 -- ---- the words of their operands
 
-module _ (diagram : Diagram) (checked : IsChecked diagram) (plan : Resolved) (offered : ℕ → ℕ → ℕ → ℕ) (before after : Circuit) (words : OffersWords diagram plan offered before) (grown : Extends before after)
-    (block : ℕ) (b : Block) (element number : ℕ) (at : slice_get diagram.blocks block ≡ Some b) (shared : is_shared diagram (attributes_of diagram) plan block ≡ true) (below : element < (attributes_of diagram).width_at block 1)
+module _ (diagram : Diagram) (checked : IsChecked diagram) (plan : Resolved) (offered : ℕ → ℕ → ℕ → ℕ)
+    (before after : Circuit) (words : OffersWords diagram plan offered before) (grown : Extends before after)
+    (block : ℕ) (b : Block) (element number : ℕ) (at : slice_get diagram.blocks block ≡ Some b)
+    (shared : is_shared diagram (attributes_of diagram) plan block ≡ true)
+    (below : element < (attributes_of diagram).width_at block 1)
   where
     ports : HasPorts b.kind b.inputs b.outputs
     ports = (held IsReadable diagram.blocks block b checked.wired.blocks at).ports
 
     pub left_word : HasWord after.nets (offered block 1 element) (width_of (type_into diagram (attributes_of diagram) block 1)) (is_signed (type_into diagram (attributes_of diagram) block 1))
-    left_word = word-stays before after (offered block 1 element) _ _ grown (words.each block b 1 element at shared (omega arith) (multiplies_input b.kind b.inputs b.outputs ports (shared_multiplies diagram plan block b at shared)) below)
+    left_word = word-stays before after (offered block 1 element) _ _ grown
+        (words.each block b 1 element at shared (omega arith)
+        (multiplies_input b.kind b.inputs b.outputs ports (shared_multiplies diagram plan block b at shared))
+        below)
 
     right_by : (rule : FullRule) → (is_product rule ≡ true → 2 ≤ b.inputs) → IsSecond diagram offered before after block element rule number
         → HasWord after.nets number (width_of (right_type diagram (attributes_of diagram) block rule)) (is_signed (right_type diagram (attributes_of diagram) block rule))
@@ -145,17 +164,23 @@ module _ (diagram : Diagram) (checked : IsChecked diagram) (plan : Resolved) (of
     right_word second = right_by (row_of b.kind).types.full (product_inputs b.kind b.inputs b.outputs ports) second
 
 -- so operations can share multipliers
-module _ (storing : StoringGivesOne) (prepare : OperationsPrepare) (valid : TypesAreValid) (diagram : Diagram) (order : List ℕ) (ordered : IsOrdered diagram order) (plan : Resolved) (times : Times) (offered : ℕ → ℕ → ℕ → ℕ) (before after : Circuit) (words : OffersWords diagram plan offered before) (operations : List Operation)
+module _ (storing : StoringGivesOne) (prepare : OperationsPrepare) (valid : TypesAreValid) (diagram : Diagram)
+    (order : List ℕ) (ordered : IsOrdered diagram order) (plan : Resolved) (times : Times) (offered : ℕ → ℕ → ℕ → ℕ)
+    (before after : Circuit) (words : OffersWords diagram plan offered before) (operations : List Operation)
     (gathered : GathersMore diagram plan times offered before after [] operations 0 (first_operation diagram plan (length diagram.blocks)))
   where
-    one_made : (number : ℕ) (o : Shared) (one : Operation) → IsOperation diagram (attributes_of diagram) plan number o → slice_get operations number ≡ Some one → IsMade diagram plan times after number o one
+    one_made : (number : ℕ) (o : Shared) (one : Operation)
+        → IsOperation diagram (attributes_of diagram) plan number o → slice_get operations number ≡ Some one
+        → IsMade diagram plan times after number o one
     one_made number o one is at =
         let g = gathered.each number o one (omega arith) is at in
         let of = of_shared diagram (attributes_of diagram) plan number o is in
         let b = get_some diagram.blocks o.block of.there in
         let grown = gathered.adds.appends.extends in
         let second = g.right b.0 b.1 in
-        let right : ◌≡◌ {A = FxType} (right_of diagram (attributes_of diagram) o.block (Some b.0)) (right_of diagram (attributes_of diagram) o.block (slice_get diagram.blocks o.block)) = ap (right_of diagram (attributes_of diagram) o.block) (sym b.1) in
+        let right : ◌≡◌ {A = FxType} (right_of diagram (attributes_of diagram) o.block (Some b.0))
+        (right_of diagram (attributes_of diagram) o.block (slice_get diagram.blocks o.block)) =
+        ap (right_of diagram (attributes_of diagram) o.block) (sym b.1) in
         let multiplies = shared_multiplies diagram plan o.block b.0 b.1 of.shared in
         let full = full_is_there storing prepare valid diagram order ordered o.block b.0 b.1 multiplies in
         record {
@@ -164,7 +189,9 @@ module _ (storing : StoringGivesOne) (prepare : OperationsPrepare) (valid : Type
           unit = g.unit;
           left = subst (λ (n : ℕ). HasWord after.nets n (width_of (type_into diagram (attributes_of diagram) o.block 1)) (is_signed (type_into diagram (attributes_of diagram) o.block 1))) (sym g.left)
               (left_word diagram ordered.checked plan offered before after words grown o.block b.0 o.element one.right b.1 of.shared of.element);
-          right = subst (λ (t : FxType). HasWord after.nets one.right (width_of t) (is_signed t)) right (right_word diagram ordered.checked plan offered before after words grown o.block b.0 o.element one.right b.1 of.shared of.element second);
+          right = subst (λ (t : FxType). HasWord after.nets one.right (width_of t) (is_signed t)) right
+              (right_word diagram ordered.checked plan offered before after words grown o.block b.0 o.element
+              one.right b.1 of.shared of.element second);
           left_type = (valid diagram order o.block b.0 ordered b.1).2 1;
           right_type = subst IsType right (second_is_valid storing prepare valid diagram order ordered o.block b.0 b.1 multiplies);
           full = full.0;

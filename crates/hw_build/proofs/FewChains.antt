@@ -66,17 +66,23 @@ abbrev pub feed_for : Diagram → Resolved → Times → List (List ℕ) → Use
 feed_for diagram plan times firsts one = (want_for diagram plan times firsts one).feed
 
 -- the uses of a feed are those that have it
-pub uses_are : (diagram : Diagram) (plan : Resolved) (times : Times) (firsts : List (List ℕ)) (feed : Feed) (uses : List Use) → uses_of_feed feed (map (want_for diagram plan times firsts) uses) ≡ map asked_of (filter (λ (one : Use). is_same_feed feed (feed_for diagram plan times firsts one)) uses)
+pub uses_are : (diagram : Diagram) (plan : Resolved) (times : Times) (firsts : List (List ℕ)) (feed : Feed)
+    (uses : List Use) → uses_of_feed feed (map (want_for diagram plan times firsts) uses)
+    ≡ map asked_of (filter (λ (one : Use). is_same_feed feed (feed_for diagram plan times firsts one)) uses)
 uses_are diagram plan times firsts feed [] = refl
 uses_are diagram plan times firsts feed (one ∷ uses) = go (is_same_feed feed (feed_for diagram plan times firsts one)) (uses_are diagram plan times firsts feed uses)
   where
     go : (b : Bool) → uses_of_feed feed (map (want_for diagram plan times firsts) uses) ≡ map asked_of (filter (λ (x : Use). is_same_feed feed (feed_for diagram plan times firsts x)) uses)
         → (if b then asked_of one ∷ uses_of_feed feed (map (want_for diagram plan times firsts) uses) else uses_of_feed feed (map (want_for diagram plan times firsts) uses))
-        ≡ map asked_of (cond b (one ∷ filter (λ (x : Use). is_same_feed feed (feed_for diagram plan times firsts x)) uses) (filter (λ (x : Use). is_same_feed feed (feed_for diagram plan times firsts x)) uses))
+        ≡ map asked_of (cond b (one ∷ filter
+        (λ (x : Use). is_same_feed feed (feed_for diagram plan times firsts x)) uses)
+        (filter (λ (x : Use). is_same_feed feed (feed_for diagram plan times firsts x)) uses))
     go true rest = ap (λ (xs : List Asked). asked_of one ∷ xs) rest
     go false rest = rest
 
-module _ {diagram : Diagram} {order : List ℕ} {plan : Resolved} {times : Times} {firsts : List (List ℕ)} (l : IsLawful diagram order plan times firsts) (earlier later : Circuit) (has : HasHubs diagram earlier later firsts) (listed : InputsAreListed) where
+module _ {diagram : Diagram} {order : List ℕ} {plan : Resolved} {times : Times} {firsts : List (List ℕ)}
+    (l : IsLawful diagram order plan times firsts) (earlier later : Circuit)
+    (has : HasHubs diagram earlier later firsts) (listed : InputsAreListed) where
   abbrev feed_of : Use → Feed
   feed_of one = feed_for diagram plan times firsts one
 
@@ -117,7 +123,8 @@ module _ {diagram : Diagram} {order : List ℕ} {plan : Resolved} {times : Times
     | inr differs ↦
         feed_differs (feed_of one) (feed_of other) (λ e.
         let hub = ap (λ (f : Feed). f.hub) e in
-        let equal = hubs_differ diagram order earlier later firsts has listed l.ordered one.from is.source one.port one.element other.from other_is.source other.port other.element is.shown other_is.shown hub in
+        let equal = hubs_differ diagram order earlier later firsts has listed l.ordered one.from is.source one.port
+        one.element other.from other_is.source other.port other.element is.shown other_is.shown hub in
         false≢true (sym differs ∙ line_from one other equal.block_is equal.port_is equal.element_is (ap (λ (f : Feed). f.first) e)))
         ∙ sym differs
   ]
@@ -127,7 +134,9 @@ module _ {diagram : Diagram} {order : List ℕ} {plan : Resolved} {times : Times
   abbrev shared : Use → List Use
   shared one = filter (is_same_line one) all_uses
 
-  class_few : (one : Class) (reader : Use) → IsLineUse l reader → feed_of reader ≡ one.feed → one.uses.items ≡ uses_of_feed one.feed (map (want_for diagram plan times firsts) all_uses) → class_registers (Some one) ≤ registers_of (shared reader)
+  class_few : (one : Class) (reader : Use) → IsLineUse l reader → feed_of reader ≡ one.feed
+      → one.uses.items ≡ uses_of_feed one.feed (map (want_for diagram plan times firsts) all_uses)
+      → class_registers (Some one) ≤ registers_of (shared reader)
   class_few one reader is feed are =
       let every = every_use l in
       let flags : filter (λ (x : Use). is_same_feed one.feed (feed_of x)) all_uses ≡ shared reader = filter_same (λ (x : Use). is_same_feed one.feed (feed_of x)) (is_same_line reader) all_uses

@@ -44,7 +44,9 @@ module _ {A : Type 0} (v : A → ℕ) (weight : ℕ → ℕ) where
     abbrev others : Reps rest_of n
     others c q = record {
       one = (rep c (up c n q)).one;
-      stands = still_stands ys (rep n p).stands.place (rep c (up c n q)).stands.place (rep n p).one (rep c (up c n q)).one (rep n p).stands.at (rep c (up c n q)).stands.at (λ e. differ c n (up c n q) p q (sym e));
+      stands = still_stands ys (rep n p).stands.place (rep c (up c n q)).stands.place (rep n p).one
+          (rep c (up c n q)).one (rep n p).stands.at (rep c (up c n q)).stands.at
+          (λ e. differ c n (up c n q) p q (sym e));
       low = (rep c (up c n q)).low;
     }
 

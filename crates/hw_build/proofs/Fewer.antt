@@ -39,7 +39,9 @@ as_many : (before xs : List Frame) → length (news before xs) ≡ different_aft
 as_many before [] = refl
 as_many before (x ∷ xs) = go (is_among x before) (as_many (before ++ x ∷ []) xs)
   where
-    go : (b : Bool) → length (news (before ++ x ∷ []) xs) ≡ different_after (before ++ x ∷ []) xs → length (cond b (news (before ++ x ∷ []) xs) (x ∷ news (before ++ x ∷ []) xs)) ≡ cond b 0 1 + different_after (before ++ x ∷ []) xs
+    go : (b : Bool) → length (news (before ++ x ∷ []) xs) ≡ different_after (before ++ x ∷ []) xs
+        → length (cond b (news (before ++ x ∷ []) xs) (x ∷ news (before ++ x ∷ []) xs))
+        ≡ cond b 0 1 + different_after (before ++ x ∷ []) xs
     go true e = omega (arith, e)
     go false e = omega (arith, e)
 
@@ -51,7 +53,10 @@ among_more frame x [] e = (refl, or_left (is_same_frame x frame) false e)
     or_left false b e = refl
 among_more frame x (y ∷ before) e = go (is_same_frame y frame) refl e (λ h. among_more frame x before h)
   where
-    go : (b : Bool) → is_same_frame y frame ≡ b → (b || is_among frame (before ++ x ∷ [])) ≡ false → (is_among frame (before ++ x ∷ []) ≡ false → (is_among frame before ≡ false) × (is_same_frame x frame ≡ false)) → ((b || is_among frame before) ≡ false) × (is_same_frame x frame ≡ false)
+    go : (b : Bool) → is_same_frame y frame ≡ b → (b || is_among frame (before ++ x ∷ [])) ≡ false
+        → (is_among frame (before ++ x ∷ []) ≡ false
+        → (is_among frame before ≡ false) × (is_same_frame x frame ≡ false))
+        → ((b || is_among frame before) ≡ false) × (is_same_frame x frame ≡ false)
     go true is h rest = absurd (false≢true (sym h))
     go false is h rest = rest h
 
@@ -67,7 +72,10 @@ are_new : (before xs : List Frame) (k : ℕ) (y : Frame) → slice_get (news bef
 are_new before [] k y at = absurd (none-some y at)
 are_new before (x ∷ xs) k y at = go (is_among x before) refl k at (λ j there. are_new (before ++ x ∷ []) xs j y there)
   where
-    go : (b : Bool) → is_among x before ≡ b → (k : ℕ) → slice_get (cond b (news (before ++ x ∷ []) xs) (x ∷ news (before ++ x ∷ []) xs)) k ≡ Some y → ((j : ℕ) → slice_get (news (before ++ x ∷ []) xs) j ≡ Some y → IsNew (before ++ x ∷ []) xs y) → IsNew before (x ∷ xs) y
+    go : (b : Bool) → is_among x before ≡ b → (k : ℕ)
+        → slice_get (cond b (news (before ++ x ∷ []) xs) (x ∷ news (before ++ x ∷ []) xs)) k ≡ Some y
+        → ((j : ℕ) → slice_get (news (before ++ x ∷ []) xs) j ≡ Some y → IsNew (before ++ x ∷ []) xs y)
+        → IsNew before (x ∷ xs) y
     go true e k at rest = later_new before xs x y (rest k at)
     go false e zero at rest = record { there = record { place = 0; at = at }; other = subst (λ (f : Frame). is_among f before ≡ false) (same_Some x y at) e }
     go false e (suc k) at rest = later_new before xs x y (rest k at)
@@ -80,7 +88,8 @@ once_new before (x ∷ xs) = go (is_among x before) (once_new (before ++ x ∷ [
     go true rest = rest
     go false rest = record { apart = λ j k y z less at there. apart_at j k y z less at there rest }
       where
-        apart_at : (j k : ℕ) (y z : Frame) → j < k → slice_get (x ∷ news (before ++ x ∷ []) xs) j ≡ Some y → slice_get (x ∷ news (before ++ x ∷ []) xs) k ≡ Some z → StandOnce (news (before ++ x ∷ []) xs) → y ≢ z
+        apart_at : (j k : ℕ) (y z : Frame) → j < k → slice_get (x ∷ news (before ++ x ∷ []) xs) j ≡ Some y
+            → slice_get (x ∷ news (before ++ x ∷ []) xs) k ≡ Some z → StandOnce (news (before ++ x ∷ []) xs) → y ≢ z
         apart_at j zero y z less at there rest = absurd (omega (arith, less))
         apart_at zero (suc k) y z less at there rest =
             let differs = (among_more z x before (are_new (before ++ x ∷ []) xs k z there).other).1 in
@@ -140,7 +149,8 @@ module _ (frame_of : Use → Frame) (same_frame : (one other : Use) → is_same_
 abbrev pub asked_of : Use → Asked
 asked_of one = record { shift = one.shift; period = one.period }
 
-most_is : (period : ℕ) (uses : List Use) → ((k : ℕ) (one : Use) → slice_get uses k ≡ Some one → one.source ≡ period) → most_frames period (map asked_of uses) ≡ greatest (map (λ (one : Use). one.shift / one.source) uses)
+most_is : (period : ℕ) (uses : List Use) → ((k : ℕ) (one : Use) → slice_get uses k ≡ Some one → one.source ≡ period)
+    → most_frames period (map asked_of uses) ≡ greatest (map (λ (one : Use). one.shift / one.source) uses)
 most_is period [] same = refl
 most_is period (one ∷ uses) same =
     let here : one.shift / period ≡ one.shift / one.source = ap (λ (p : ℕ). one.shift / p) (sym (same 0 one refl)) in
@@ -151,7 +161,9 @@ most_is period (one ∷ uses) same =
 abbrev others : List Use → List Use
 others uses = filter (λ (one : Use). not (is_whole one)) uses
 
-parted_are : (source : Source) (uses : List Use) → ((k : ℕ) (one : Use) → slice_get uses k ≡ Some one → one.source ≡ source.frame.period) → parted source (map asked_of uses) ≡ map asked_of (others uses)
+parted_are : (source : Source) (uses : List Use)
+    → ((k : ℕ) (one : Use) → slice_get uses k ≡ Some one → one.source ≡ source.frame.period)
+    → parted source (map asked_of uses) ≡ map asked_of (others uses)
 parted_are source [] same = refl
 parted_are source (one ∷ uses) same = go (is_whole one) here (parted_are source uses (λ k other at. same (suc k) other at))
   where
@@ -164,10 +176,16 @@ parted_are source (one ∷ uses) same = go (is_whole one) here (parted_are sourc
     go false e rest = ap (λ (b : Bool). cond (not b) (asked_of one ∷ parted source (map asked_of uses)) (parted source (map asked_of uses))) e ∙ ap (λ (xs : List Asked). asked_of one ∷ xs) rest
 
 -- the registers of a chain whose uses are these
-pub chain_registers : (source : Source) (uses : List Use) → ((k : ℕ) (one : Use) → slice_get uses k ≡ Some one → one.source ≡ source.frame.period) → most_frames source.frame.period (map asked_of uses) + different (parted_frames source (map asked_of uses)) ≤ registers_of uses
+pub chain_registers : (source : Source) (uses : List Use)
+    → ((k : ℕ) (one : Use) → slice_get uses k ≡ Some one → one.source ≡ source.frame.period)
+    → most_frames source.frame.period (map asked_of uses) + different (parted_frames source (map asked_of uses))
+    ≤ registers_of uses
 chain_registers source uses same =
     let most = most_is source.frame.period uses same in
-    let frames : parted_frames source (map asked_of uses) ≡ map (λ (one : Use). reader_of source (asked_of one)) (others uses) = ap (map (reader_of source)) (parted_are source uses same) ∙ map-map (reader_of source) asked_of (others uses) in
+    let frames : parted_frames source (map asked_of uses)
+    ≡ map (λ (one : Use). reader_of source (asked_of one)) (others uses) =
+    ap (map (reader_of source)) (parted_are source uses same)
+    ∙ map-map (reader_of source) asked_of (others uses) in
     let count : different (parted_frames source (map asked_of uses)) ≡ different (map (λ (one : Use). reader_of source (asked_of one)) (others uses)) = ap different frames in
     let less = few_frames (λ (one : Use). reader_of source (asked_of one))
     (λ one other e.

@@ -30,7 +30,9 @@ entry_in_range : StoredIsOne → StoringGivesOne → (type : FxType) (entry : Op
 entry_in_range law gives type None is = InRange-zero type
 entry_in_range law gives type (Some d) is = let one = gives d type is in subst (InRange type) (stored_as law type d one.number is one.given) one.in_range
 
-pub first_in_range : StoredIsOne → StoringGivesOne → (diagram : Diagram) (block : ℕ) (b : Block) (element : ℕ) → slice_get diagram.blocks block ≡ Some b → IsType ((attributes_of diagram).type_at block 1) → InRange ((attributes_of diagram).type_at block 1) (first_at diagram block element)
+pub first_in_range : StoredIsOne → StoringGivesOne → (diagram : Diagram) (block : ℕ) (b : Block) (element : ℕ)
+    → slice_get diagram.blocks block ≡ Some b → IsType ((attributes_of diagram).type_at block 1)
+    → InRange ((attributes_of diagram).type_at block 1) (first_at diagram block element)
 first_in_range law gives diagram block b element at is =
     subst (λ (o : Option Block). InRange ((attributes_of diagram).type_at block 1) (first_of_block diagram block element o)) (sym at)
     (entry_in_range law gives ((attributes_of diagram).type_at block 1) (entry_of (first_list (row_of b.kind).signal.lists) (min element ((attributes_of diagram).width_at block 1 - 1))) is)
@@ -53,19 +55,26 @@ entry_there list width element many below = get_there list (repeated (length lis
     inside (inr same) = let e = repeated_own (length list) element (omega (arith, same, below)) in omega (arith, e, same, below)
 
 -- what is first is what the block's list has, where it has an entry
-pub first_is_initial : (diagram : Diagram) (block : ℕ) (b : Block) (element : ℕ) → slice_get diagram.blocks block ≡ Some b → element < (attributes_of diagram).width_at block 1 → IsRepeated ((attributes_of diagram).width_at block 1) (length (first_list (row_of b.kind).signal.lists))
+pub first_is_initial : (diagram : Diagram) (block : ℕ) (b : Block) (element : ℕ)
+    → slice_get diagram.blocks block ≡ Some b → element < (attributes_of diagram).width_at block 1
+    → IsRepeated ((attributes_of diagram).width_at block 1) (length (first_list (row_of b.kind).signal.lists))
     → initial_at (attributes_of diagram) block b element ≡ Some (first_at diagram block element)
 first_is_initial diagram block b element at below many =
     let width : ℕ = (attributes_of diagram).width_at block 1 in
     let entry = entry_there (first_list (row_of b.kind).signal.lists) width element many below in
-    let own : initial_at (attributes_of diagram) block b element ≡ Some (stored_of entry.0 ((attributes_of diagram).type_at block 1)) = ap (stored_in ((attributes_of diagram).type_at block 1)) entry.1 in
+    let own : initial_at (attributes_of diagram) block b element
+    ≡ Some (stored_of entry.0 ((attributes_of diagram).type_at block 1)) =
+    ap (stored_in ((attributes_of diagram).type_at block 1)) entry.1 in
     let last : element ≡ min element (width - 1) = omega (arith, below) in
     let first : stored_of entry.0 ((attributes_of diagram).type_at block 1) ≡ first_at diagram block element =
     sym (ap or_zero own) ∙ ap (λ (e : ℕ). or_zero (initial_at (attributes_of diagram) block b e)) last ∙ ap (first_of_block diagram block element) (sym at)
     in
     own ∙ ap (λ (v : ℤ). Some v) first
 
-pub first_stores : StoredIsOne → (diagram : Diagram) (block : ℕ) (b : Block) (element : ℕ) (list : List Decimal) → slice_get diagram.blocks block ≡ Some b → element < (attributes_of diagram).width_at block 1 → (row_of b.kind).signal.lists ≡ list ∷ [] → IsRepeated ((attributes_of diagram).width_at block 1) (length list)
+pub first_stores : StoredIsOne → (diagram : Diagram) (block : ℕ) (b : Block) (element : ℕ) (list : List Decimal)
+    → slice_get diagram.blocks block ≡ Some b → element < (attributes_of diagram).width_at block 1
+    → (row_of b.kind).signal.lists ≡ list ∷ []
+    → IsRepeated ((attributes_of diagram).width_at block 1) (length list)
     → IsType ((attributes_of diagram).type_at block 1) → StoresEntry list element ((attributes_of diagram).type_at block 1) (first_at diagram block element)
 first_stores law diagram block b element list at below lists many is =
     let width : ℕ = (attributes_of diagram).width_at block 1 in
@@ -73,6 +82,7 @@ first_stores law diagram block b element list at below lists many is =
     let same : first_list (row_of b.kind).signal.lists ≡ list = ap first_list lists in
     let entry = entry_there list width element many below in
     let initial = first_is_initial diagram block b element at below (subst (λ (xs : List Decimal). IsRepeated width (length xs)) (sym same) many) in
-    let own : initial_at (attributes_of diagram) block b element ≡ Some (stored_of entry.0 type) = ap (λ (xs : List Decimal). stored_in type (entry_of xs element)) same ∙ ap (stored_in type) entry.1 in
+    let own : initial_at (attributes_of diagram) block b element ≡ Some (stored_of entry.0 type) =
+    ap (λ (xs : List Decimal). stored_in type (entry_of xs element)) same ∙ ap (stored_in type) entry.1 in
     let first : stored_of entry.0 type ≡ first_at diagram block element = same_Some (stored_of entry.0 type) (first_at diagram block element) (sym own ∙ initial) in
     subst (λ (o : Option Decimal). MatchOption o ⊥ (λ (d : Decimal). Stores d type (first_at diagram block element))) (sym entry.1) ((law entry.0 type (first_at diagram block element) is).1 first)

@@ -29,7 +29,8 @@ use Rattle.math_list.proofs.Places.{get_left, there_map}
 pair_same : (one other : FramePair) → is_same_frame one other ≡ true → one ≡ other
 pair_same one other same =
     let parts = and_parts (one.period == other.period) (one.latency == other.latency) same in
-    ap (λ (n : ℕ). record { period = n; latency = one.latency }) (eqb-true one.period other.period parts.0) ∙ ap (λ (n : ℕ). record { period = other.period; latency = n }) (eqb-true one.latency other.latency parts.1)
+    ap (λ (n : ℕ). record { period = n; latency = one.latency }) (eqb-true one.period other.period parts.0)
+    ∙ ap (λ (n : ℕ). record { period = other.period; latency = n }) (eqb-true one.latency other.latency parts.1)
 
 -- each of them stands among those that differ
 pub stands_distinct : (xs : List FramePair) (k : ℕ) (x : FramePair) → slice_get xs k ≡ Some x → Stands (distinct is_same_frame xs) x
@@ -66,8 +67,12 @@ frame_of_pair pair = record { period = pair.period; latency = pair.latency }
 module _ (diagram : Diagram) (plan : Resolved) (times : Times) where
   pub frame_stands : (block : ℕ) (frame : Frame) → IsBlockFrame diagram plan times block frame → IsFramed diagram plan times frame
   frame_stands block frame is =
-      let all = flat_stands (λ place. frames_of plan times place ((attributes_of diagram).period_at place)) 0 (length diagram.blocks) block (pair_of frame) (omega arith) (let low = is.there in omega (arith, low)) own in
-      let stands = stands_distinct (flat_map (λ place. frames_of plan times place ((attributes_of diagram).period_at place)) (numbers_from 0 (length diagram.blocks))) all.place (pair_of frame) all.at in
+      let all = flat_stands (λ place. frames_of plan times place ((attributes_of diagram).period_at place)) 0
+      (length diagram.blocks) block (pair_of frame) (omega arith)
+      (let low = is.there in omega (arith, low)) own in
+      let stands = stands_distinct (flat_map
+      (λ place. frames_of plan times place ((attributes_of diagram).period_at place))
+      (numbers_from 0 (length diagram.blocks))) all.place (pair_of frame) all.at in
       record { place = stands.place; at = stands.at }
     where
       own : Stands (frames_of plan times block ((attributes_of diagram).period_at block)) (pair_of frame)
@@ -80,7 +85,9 @@ module _ (diagram : Diagram) (plan : Resolved) (times : Times) where
 
   -- by the nets that a step puts in
   pub more_goes : (closed hubs : ℕ) (a b : Circuit) (registers : ℕ) → GoesOn closed hubs a b → register_count b.nets ≤ register_count a.nets + registers
-      → ((k : ℕ) (net : Net) (frame : Frame) → length a.nets ≤ k → slice_get b.nets k ≡ Some net → counted_frame net.kind ≡ Some frame → IsFramed diagram plan times frame) → HasMoreRegisters diagram plan times a b registers
+      → ((k : ℕ) (net : Net) (frame : Frame) → length a.nets ≤ k → slice_get b.nets k ≡ Some net
+      → counted_frame net.kind ≡ Some frame → IsFramed diagram plan times frame)
+      → HasMoreRegisters diagram plan times a b registers
   more_goes closed hubs a b registers goes few parts = record {
     few = few;
     counters = λ k frame low at. parts k at.net frame low at.is at.counts;
@@ -94,7 +101,9 @@ module _ (diagram : Diagram) (plan : Resolved) (times : Times) where
   }
 
   -- a step behind another
-  pub registers_then : (a b c : Circuit) (one other : ℕ) → length a.nets ≤ length b.nets → HasMoreRegisters diagram plan times a b one → HasMoreRegisters diagram plan times b c other → HasMoreRegisters diagram plan times a c (one + other)
+  pub registers_then : (a b c : Circuit) (one other : ℕ) → length a.nets ≤ length b.nets
+      → HasMoreRegisters diagram plan times a b one → HasMoreRegisters diagram plan times b c other
+      → HasMoreRegisters diagram plan times a c (one + other)
   registers_then a b c one other grown first second = record {
     few = let x = first.few in let y = second.few in omega (arith, x, y);
     counters = λ k frame low at. elim (cases_lt k (length b.nets)) [
@@ -106,7 +115,10 @@ module _ (diagram : Diagram) (plan : Resolved) (times : Times) where
 
   -- from an empty netlist, by those of all steps
   pub few_registers : (start now : Circuit) → start.nets ≡ [] → CountersDiffer now.nets
-      → HasMoreRegisters diagram plan times start now (registers_of_lines (uses_in_all diagram (attributes_of diagram) plan times) + (registers_in_all diagram (attributes_of diagram) plan + length (shared_operations diagram (attributes_of diagram) plan)))
+      → HasMoreRegisters diagram plan times start now
+      (registers_of_lines (uses_in_all diagram (attributes_of diagram) plan times)
+      + (registers_in_all diagram (attributes_of diagram) plan
+      + length (shared_operations diagram (attributes_of diagram) plan)))
       → register_count now.nets + counter_count now.nets ≤ chained diagram (attributes_of diagram) plan times
   few_registers start now none differ more =
       let frames : List Frame = map frame_of_pair (frames_in_all diagram (attributes_of diagram) plan times) in

@@ -56,14 +56,19 @@ some_stored storing (first ∷ list) type valid some =
     let one = storing first type valid in
     (one.number, subst (λ (o : Option Decimal). MatchOption o ⊥ (λ decimal. Stores decimal type one.number)) (sym there) one.given)
 
-module _ (storing : StoringGivesOne) (prepare : OperationsPrepare) (valid : TypesAreValid) (diagram : Diagram) (order : List ℕ) (ordered : IsOrdered diagram order) (block : ℕ) (b : Block) (at : slice_get diagram.blocks block ≡ Some b) (multiplies : (row_of b.kind).hardware.multiplies ≡ true) where
+module _ (storing : StoringGivesOne) (prepare : OperationsPrepare) (valid : TypesAreValid) (diagram : Diagram)
+    (order : List ℕ) (ordered : IsOrdered diagram order) (block : ℕ) (b : Block)
+    (at : slice_get diagram.blocks block ≡ Some b)
+    (multiplies : (row_of b.kind).hardware.multiplies ≡ true) where
   readable : IsReadable b
   readable = held IsReadable diagram.blocks block b ordered.checked.wired.blocks at
 
   abbrev IsOp : Kind → Op → Type 0
   IsOp kind op = IsOpOf kind 0 ((attributes_of diagram).param_at block) (type_into diagram (attributes_of diagram) block 2) op
 
-  full_by : (kind : Kind) → b.kind ≡ kind → (row_of kind).hardware.multiplies ≡ true → (full : FxType) × IsFullProduct (type_into diagram (attributes_of diagram) block 1) (right_type diagram (attributes_of diagram) block (row_of kind).types.full) full
+  full_by : (kind : Kind) → b.kind ≡ kind → (row_of kind).hardware.multiplies ≡ true
+      → (full : FxType) × IsFullProduct (type_into diagram (attributes_of diagram) block 1)
+      (right_type diagram (attributes_of diagram) block (row_of kind).types.full) full
   full_by (Gain value spec) is e =
       let list = (subst (λ (k : Kind). (row_of k).parameters) is readable.parameters).0.0 in
       let stored = some_stored storing value ((attributes_of diagram).param_at block) (valid diagram order block b ordered at).1 list in
@@ -78,7 +83,9 @@ module _ (storing : StoringGivesOne) (prepare : OperationsPrepare) (valid : Type
       let found = can.full_type in (
         found.0,
         subst (λ (t : FxType). IsFullProduct t (type_into diagram (attributes_of diagram) block 2) found.0) (type_first diagram (attributes_of diagram) block b.inputs (omega (arith, some)))
-            (subst (λ (t : FxType). IsFullProduct (type_of (types_into diagram (attributes_of diagram) block b.inputs) 0) t found.0) (type_second diagram (attributes_of diagram) block b.inputs some) found.1),
+            (subst (λ (t : FxType). IsFullProduct
+            (type_of (types_into diagram (attributes_of diagram) block b.inputs) 0) t found.0)
+            (type_second diagram (attributes_of diagram) block b.inputs some) found.1),
       )
   full_by _ is e = absurd (false≢true e)
 

@@ -38,14 +38,25 @@ use Rattle.hw_build.proofs.UnderWay.{hubs_later, operands_later, by_call, by_con
 module _ (diagram : Diagram) (timing : Timing) (places : Places) (place_of : ℕ → ℕ) (hubs begun : ℕ) (start : Circuit) where
   -- ---- what is made goes on
 
-  pub made_later : (closed more : ℕ) (now later : Circuit) (block : ℕ) (b : Block) (port element : ℕ) → closed ≤ more → GoesOn closed hubs now later → IsElementMade diagram timing places closed hubs now block b port element → IsElementMade diagram timing places more hubs later block b port element
-  made_later closed more now later block b port element less goes made = later_on closed more hubs now later (λ n rows. IsMadeAs diagram (attributes_of diagram) timing n (waves_of places rows) b.kind block b port element) less goes made
+  pub made_later : (closed more : ℕ) (now later : Circuit) (block : ℕ) (b : Block) (port element : ℕ)
+      → closed ≤ more → GoesOn closed hubs now later
+      → IsElementMade diagram timing places closed hubs now block b port element
+      → IsElementMade diagram timing places more hubs later block b port element
+  made_later closed more now later block b port element less goes made =
+      later_on closed more hubs now later (λ n rows. IsMadeAs diagram (attributes_of diagram) timing n
+      (waves_of places rows) b.kind block b port element) less goes made
 
-  pub piped_later : (closed more : ℕ) (now later : Circuit) (block port element : ℕ) → closed ≤ more → GoesOn closed hubs now later → IsElementPiped diagram timing places closed hubs now block port element → IsElementPiped diagram timing places more hubs later block port element
-  piped_later closed more now later block port element less goes piped = later_on closed more hubs now later (λ n rows. IsPiped diagram (attributes_of diagram) timing n (waves_of places rows) ((attributes_of diagram).period_at block) block port element) less goes piped
+  pub piped_later : (closed more : ℕ) (now later : Circuit) (block port element : ℕ) → closed ≤ more
+      → GoesOn closed hubs now later → IsElementPiped diagram timing places closed hubs now block port element
+      → IsElementPiped diagram timing places more hubs later block port element
+  piped_later closed more now later block port element less goes piped =
+      later_on closed more hubs now later (λ n rows. IsPiped diagram (attributes_of diagram) timing n
+      (waves_of places rows) ((attributes_of diagram).period_at block) block port element) less goes piped
 
   low_later : (closed : ℕ) (now later : Circuit) (level : ℕ → ℕ) → GoesOn closed hubs now later → IsGoing diagram timing places place_of begun start closed hubs now level
-      → (block : ℕ) (b : Block) (element slot : ℕ) → slice_get diagram.blocks block ≡ Some b → element < (attributes_of diagram).width_at block 1 → timing.slot block element ≡ Some slot → (places.product block element < length later.nets) × (level (places.product block element) ≡ 0)
+      → (block : ℕ) (b : Block) (element slot : ℕ) → slice_get diagram.blocks block ≡ Some b
+      → element < (attributes_of diagram).width_at block 1 → timing.slot block element ≡ Some slot
+      → (places.product block element < length later.nets) × (level (places.product block element) ≡ 0)
   low_later closed now later level goes going block b element slot at below told =
       let is = going.low block b element slot at below told in
       (still_within closed hubs now later goes (places.product block element) is.0, is.1)
@@ -55,7 +66,9 @@ module _ (diagram : Diagram) (timing : Timing) (places : Places) (place_of : ℕ
   same_goes : (closed : ℕ) (now later : Circuit) → later.nets ≡ now.nets → later.cycles ≡ now.cycles → GoesOn closed hubs now later
   same_goes closed now later nets cycles = record { cycles = cycles; nets = λ k inside. inl (ap (λ (all : List Net). slice_get all k) nets) }
 
-  pub way_same : (closed count : ℕ) (now later : Circuit) (level : ℕ → ℕ) → later.nets ≡ now.nets → later.cycles ≡ now.cycles → IsUnderWay diagram timing places place_of closed hubs now level count → IsUnderWay diagram timing places place_of closed hubs later level count
+  pub way_same : (closed count : ℕ) (now later : Circuit) (level : ℕ → ℕ) → later.nets ≡ now.nets
+      → later.cycles ≡ now.cycles → IsUnderWay diagram timing places place_of closed hubs now level count
+      → IsUnderWay diagram timing places place_of closed hubs later level count
   way_same closed count now later level nets cycles way =
       let goes = same_goes closed now later nets cycles in
       let size : length later.nets ≡ length now.nets = ap length nets in
@@ -75,7 +88,9 @@ module _ (diagram : Diagram) (timing : Timing) (places : Places) (place_of : ℕ
 
   -- ---- a call
 
-  pub going_by_call : (closed own : ℕ) (before after : Circuit) (level : ℕ → ℕ) (named : List ℕ) → IsGoing diagram timing places place_of begun start closed hubs before level → Appends before after named → 1 ≤ own → ((read : ℕ) → Contains named read → (read < length before.nets) × (level read ≤ own))
+  pub going_by_call : (closed own : ℕ) (before after : Circuit) (level : ℕ → ℕ) (named : List ℕ)
+      → IsGoing diagram timing places place_of begun start closed hubs before level → Appends before after named
+      → 1 ≤ own → ((read : ℕ) → Contains named read → (read < length before.nets) × (level read ≤ own))
       → IsGoing diagram timing places place_of begun start closed hubs after (level_behind before after level own)
   going_by_call closed own before after level named going appends some low =
       let goes = goes_appended closed hubs before after appends.extends in
@@ -106,7 +121,10 @@ module _ (diagram : Diagram) (timing : Timing) (places : Places) (place_of : ℕ
 
   -- ---- names
 
-  pub going_same : (closed : ℕ) (now later : Circuit) (level : ℕ → ℕ) → later.nets ≡ now.nets → later.cycles ≡ now.cycles → later.inputs ≡ now.inputs → IsGoing diagram timing places place_of begun start closed hubs now level → IsGoing diagram timing places place_of begun start closed hubs later level
+  pub going_same : (closed : ℕ) (now later : Circuit) (level : ℕ → ℕ) → later.nets ≡ now.nets
+      → later.cycles ≡ now.cycles → later.inputs ≡ now.inputs
+      → IsGoing diagram timing places place_of begun start closed hubs now level
+      → IsGoing diagram timing places place_of begun start closed hubs later level
   going_same closed now later level nets cycles inputs going =
       let goes = same_goes closed now later nets cycles in
       let few = going.few in
@@ -128,8 +146,13 @@ module _ (diagram : Diagram) (timing : Timing) (places : Places) (place_of : ℕ
 
   -- ---- the next net that readers name gets its argument
 
-  module _ (closed argument : ℕ) (before after : Circuit) (level : ℕ → ℕ) (block : ℕ) (b : Block) (port element : ℕ) (going : IsGoing diagram timing places place_of begun start closed hubs before level) (shown : IsShown diagram (attributes_of diagram) block b port element)
-      (here : places.after block port element ≡ closed) (high : closed < hubs) (typed : IsWord (width_of ((attributes_of diagram).type_at block 1)) (is_signed ((attributes_of diagram).type_at block 1))) (is : IsConnected before after closed argument) where
+  module _ (closed argument : ℕ) (before after : Circuit) (level : ℕ → ℕ) (block : ℕ) (b : Block) (port element : ℕ)
+      (going : IsGoing diagram timing places place_of begun start closed hubs before level)
+      (shown : IsShown diagram (attributes_of diagram) block b port element)
+      (here : places.after block port element ≡ closed) (high : closed < hubs)
+      (typed : IsWord (width_of ((attributes_of diagram).type_at block 1))
+      (is_signed ((attributes_of diagram).type_at block 1)))
+      (is : IsConnected before after closed argument) where
     waiting : slice_get before.nets closed ≡ Some (hub_of ((attributes_of diagram).type_at block 1))
     waiting = let waits = going.waits block b port element shown (omega (arith, here)) in ap (slice_get before.nets) (sym here) ∙ waits.at
 
@@ -143,15 +166,20 @@ module _ (diagram : Diagram) (timing : Timing) (places : Places) (place_of : ℕ
     connected_goes = goes_connected closed hubs before after closed argument [] is kind_is (omega arith) high
 
     -- it passes that on
-    pub connected_same : HasWord before.nets argument (width_of ((attributes_of diagram).type_at block 1)) (is_signed ((attributes_of diagram).type_at block 1)) → InLater (suc closed) hubs after (λ n rows. AreSame n (rows closed) (rows argument))
+    pub connected_same : HasWord before.nets argument (width_of ((attributes_of diagram).type_at block 1))
+        (is_signed ((attributes_of diagram).type_at block 1))
+        → InLater (suc closed) hubs after (λ n rows. AreSame n (rows closed) (rows argument))
     connected_same has =
         resized (suc closed) hubs after closed argument (width_of ((attributes_of diagram).type_at block 1)) (is_signed ((attributes_of diagram).type_at block 1)) (given is.net argument)
         (record { at = connected_here before after closed argument is; settled = inl (omega arith) }) refl (ap (λ (n : Net). n.width) (sym net_is)) (ap (λ (n : Net). n.signed) (sym net_is)) typed
         (word_later closed hubs before after argument _ _ connected_goes has)
 
     pub going_by_connect : argument < length before.nets → level argument ≤ own_level (place_of block)
-        → ((other : ℕ) (q : Block) (outer member : ℕ) → IsShown diagram (attributes_of diagram) other q outer member → places.after other outer member ≡ closed → (block ≡ other) × (port ≡ outer) × (element ≡ member))
-        → IsElementMade diagram timing places closed hubs before block b port element → IsElementPiped diagram timing places (suc closed) hubs after block port element → IsGoing diagram timing places place_of begun start (suc closed) hubs after level
+        → ((other : ℕ) (q : Block) (outer member : ℕ) → IsShown diagram (attributes_of diagram) other q outer member
+        → places.after other outer member ≡ closed → (block ≡ other) × (port ≡ outer) × (element ≡ member))
+        → IsElementMade diagram timing places closed hubs before block b port element
+        → IsElementPiped diagram timing places (suc closed) hubs after block port element
+        → IsGoing diagram timing places place_of begun start (suc closed) hubs after level
     going_by_connect there low alone made piped =
         let waits = going.waits block b port element shown (omega (arith, here)) in
         let level_is : level closed ≡ hub_level (place_of block) = ap level (sym here) ∙ waits.level_is in
@@ -161,7 +189,9 @@ module _ (diagram : Diagram) (timing : Timing) (places : Places) (place_of : ℕ
         record {
           since = goes_then begun hubs start before after going.since (goes_narrow begun closed hubs before after on connected_goes);
           on = omega (arith, on);
-          way = by_connect diagram timing places place_of hubs closed 0 argument before after level [] is kind_is (subst (λ (n : Net). IsWord n.width n.signed) net_is typed) high there (omega (arith, level_is, low)) going.way;
+          way = by_connect diagram timing places place_of hubs closed 0 argument before after level [] is kind_is
+              (subst (λ (n : Net). IsWord n.width n.signed) net_is typed) high there
+              (omega (arith, level_is, low)) going.way;
           few = omega (arith, few, inputs);
           late = going.late;
           low = low_later closed before after level connected_goes going;
@@ -179,11 +209,18 @@ module _ (diagram : Diagram) (timing : Timing) (places : Places) (place_of : ℕ
           ];
           piped = λ other q outer member also early. elim (cases_lt (places.after other outer member) closed) [
             | inl before_it ↦ piped_later closed (suc closed) before after other outer member (omega arith) connected_goes (going.piped other q outer member also before_it)
-            | inr past ↦ moved other q outer member also (alone other q outer member also (omega (arith, early, past))) (λ x y z w. IsElementPiped diagram timing places (suc closed) hubs after x z w) piped
+            | inr past ↦ moved other q outer member also
+                (alone other q outer member also (omega (arith, early, past)))
+                (λ x y z w. IsElementPiped diagram timing places (suc closed) hubs after x z w) piped
           ];
         }
       where
-        moved : (other : ℕ) (q : Block) (outer member : ℕ) → IsShown diagram (attributes_of diagram) other q outer member → (block ≡ other) × (port ≡ outer) × (element ≡ member) → (P : ℕ → Block → ℕ → ℕ → Type 0) → P block b port element → P other q outer member
+        moved : (other : ℕ) (q : Block) (outer member : ℕ)
+            → IsShown diagram (attributes_of diagram) other q outer member
+            → (block ≡ other) × (port ≡ outer) × (element ≡ member) → (P : ℕ → Block → ℕ → ℕ → Type 0)
+            → P block b port element → P other q outer member
         moved other q outer member also same P h =
             let own : ◌≡◌ {A = Block} b q = same_Some b q (sym shown.block_is ∙ ap (slice_get diagram.blocks) same.0 ∙ also.block_is) in
-            subst (λ (x : ℕ). P x q outer member) same.0 (subst (λ (y : Block). P block y outer member) own (subst (λ (x : ℕ). P block b x member) same.1 (subst (λ (x : ℕ). P block b port x) same.2 h)))
+            subst (λ (x : ℕ). P x q outer member) same.0
+            (subst (λ (y : Block). P block y outer member) own
+            (subst (λ (x : ℕ). P block b x member) same.1 (subst (λ (x : ℕ). P block b port x) same.2 h)))

@@ -42,7 +42,20 @@ reopened_twice a b c k one two =
     let same : ◌≡◌ {A = Net} one.is two.was = same_Some one.is two.was (sym one.later_there ∙ two.there) in
     let wide : two.is.width ≡ one.was.width = two.wide ∙ sym (ap (λ (n : Net). n.width) same) ∙ one.wide in
     let sign : two.is.signed ≡ one.was.signed = two.sign ∙ sym (ap (λ (n : Net). n.signed) same) ∙ one.sign in
-    record { was = one.was; is = two.is; old_args = one.old_args; new_args = two.new_args; there = one.there; later_there = two.later_there; old_kind = one.old_kind; new_kind = two.new_kind; wide = wide; sign = sign }
+    record {
+      was = one.was;
+      is = two.is;
+      old_args = one.old_args;
+      new_args = two.new_args;
+      there =
+          one.there;
+      later_there = two.later_there;
+      old_kind =
+          one.old_kind;
+      new_kind = two.new_kind;
+      wide = wide;
+      sign = sign;
+    }
 
 -- of the nets that stand at this place
 reopened_at : (a b c d : List Net) (k : ℕ) → slice_get c k ≡ slice_get a k → slice_get d k ≡ slice_get b k → IsReopened a b k → IsReopened c d k
@@ -109,7 +122,8 @@ later_on closed more hubs now later P less goes held = record {
 -- ---- facts of nets
 
 -- words stay
-pub word_later : (closed hubs : ℕ) (now later : Circuit) (number width : ℕ) (signed : Bool) → GoesOn closed hubs now later → HasWord now.nets number width signed → HasWord later.nets number width signed
+pub word_later : (closed hubs : ℕ) (now later : Circuit) (number width : ℕ) (signed : Bool)
+    → GoesOn closed hubs now later → HasWord now.nets number width signed → HasWord later.nets number width signed
 word_later closed hubs now later number width signed goes word = elim (goes.nets number (slice_get_within now.nets number word.net word.is)) [
   | inl kept ↦ record { net = word.net; is = kept ∙ word.is; wide = word.wide; sign = word.sign }
   | inr changed ↦
@@ -123,7 +137,9 @@ word_later closed hubs now later number width signed goes word = elim (goes.nets
 ]
 
 -- a net that isn't open stays
-pub net_later : (closed hubs : ℕ) (now later : Circuit) (number : ℕ) (net : Net) → GoesOn closed hubs now later → slice_get now.nets number ≡ Some net → (number < closed) ⊎ (hubs ≤ number) → slice_get later.nets number ≡ Some net
+pub net_later : (closed hubs : ℕ) (now later : Circuit) (number : ℕ) (net : Net) → GoesOn closed hubs now later
+    → slice_get now.nets number ≡ Some net → (number < closed) ⊎ (hubs ≤ number)
+    → slice_get later.nets number ≡ Some net
 net_later closed hubs now later number net goes at settled = elim (goes.nets number (slice_get_within now.nets number net at)) [
   | inl kept ↦ kept ∙ at
   | inr changed ↦
@@ -140,5 +156,7 @@ pub shown_later : (closed hubs : ℕ) (now : Circuit) (number : ℕ) (net : Net)
     → (P : ℕ → Rows → Type 0) → ((n : ℕ) (inputs : Inputs) (rows : Rows) → NetShows now.cycles n inputs rows net.width net.signed net.kind (rows number) → P n rows) → InLater closed hubs now P
 shown_later closed hubs now number net at settled P gives = record {
   holds = λ later goes n inputs rows is.
-      gives n inputs rows (subst (λ (cycles : ℕ). NetShows cycles n inputs rows net.width net.signed net.kind (rows number)) goes.cycles (is.shows number net (net_later closed hubs now later number net goes at settled)));
+      gives n inputs rows (subst (λ (cycles : ℕ). NetShows cycles n inputs rows net.width net.signed net.kind
+      (rows number)) goes.cycles
+      (is.shows number net (net_later closed hubs now later number net goes at settled)));
 }

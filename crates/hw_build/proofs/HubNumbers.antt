@@ -11,7 +11,9 @@ use Rattle.hw_build.specs.inner.ElementLoop.{StoodHubs, port_start}
 
 module _ (diagram : Diagram) (firsts : List (List ℕ)) (stood : StoodHubs diagram firsts) (block : ℕ) (b : Block) where
   -- of an element
-  pub hub_is : (port element : ℕ) → IsShown diagram (attributes_of diagram) block b port element → is_input_role (row_of b.kind).place.role ≡ false → port_start diagram block b (port - 1) + element ≡ hub_at firsts block port element
+  pub hub_is : (port element : ℕ) → IsShown diagram (attributes_of diagram) block b port element
+      → is_input_role (row_of b.kind).place.role ≡ false
+      → port_start diagram block b (port - 1) + element ≡ hub_at firsts block port element
   hub_is port element shown other = sym (stood.has.of_others block b port element shown other)
 
   -- behind a port

@@ -37,13 +37,19 @@ module _ (diagram : Diagram) (checked : IsChecked diagram) (listed : InputsAreLi
   roots = root_inputs diagram (attributes_of diagram)
 
   -- the first column of its block, and its place there
-  column_is : (inputs columns : List ℕ) (k : ℕ) (e : RootElement) → AreBlocksOf roots inputs → AreColumnsFrom inputs columns 0 → slice_get roots k ≡ Some e → slice_index_or columns e.block 0 + e.element ≡ k
-  column_is inputs columns k e blocks are at = place_is root_input (λ block. (attributes_of diagram).width_at block 1) diagram (listed diagram (attributes_of diagram) checked.wired) inputs columns k e blocks are at
+  column_is : (inputs columns : List ℕ) (k : ℕ) (e : RootElement) → AreBlocksOf roots inputs
+      → AreColumnsFrom inputs columns 0 → slice_get roots k ≡ Some e
+      → slice_index_or columns e.block 0 + e.element ≡ k
+  column_is inputs columns k e blocks are at =
+      place_is root_input (λ block. (attributes_of diagram).width_at block 1) diagram
+      (listed diagram (attributes_of diagram) checked.wired) inputs columns k e blocks are at
 
   pub inputs_there : (inputs : List ℕ) → AreBlocksOf roots inputs → All (λ block. block < length diagram.blocks) inputs
   inputs_there inputs blocks = blocks_there root_input (λ block. (attributes_of diagram).width_at block 1) diagram (listed diagram (attributes_of diagram) checked.wired) inputs blocks
 
-  pub hubs_are : (earlier middle later : Circuit) (inputs columns : List ℕ) (firsts : List (List ℕ)) → AreBlocksOf roots inputs → AddsInputs diagram earlier middle inputs (length inputs) → AreColumnsFrom inputs columns 0 → AddsBlocks diagram middle later columns firsts (length diagram.blocks)
+  pub hubs_are : (earlier middle later : Circuit) (inputs columns : List ℕ) (firsts : List (List ℕ))
+      → AreBlocksOf roots inputs → AddsInputs diagram earlier middle inputs (length inputs)
+      → AreColumnsFrom inputs columns 0 → AddsBlocks diagram middle later columns firsts (length diagram.blocks)
       → HasHubs diagram earlier later firsts
   hubs_are earlier middle later inputs columns firsts blocks ins are adds = record {
     extends = extends-trans earlier middle later ins.extends adds.extends;

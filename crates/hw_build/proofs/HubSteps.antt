@@ -70,7 +70,8 @@ ports_none now type size firsts none = record {
   places = λ port below. absurd (omega (arith, below));
 }
 
-pub ports_more : (earlier now later : Circuit) (type : FxType) (size : ℕ → ℕ) (firsts : List ℕ) (ports first : ℕ) → AddsPorts earlier now type size firsts ports → first ≡ length now.nets → AddsFresh now later (size ports) type
+pub ports_more : (earlier now later : Circuit) (type : FxType) (size : ℕ → ℕ) (firsts : List ℕ) (ports first : ℕ)
+    → AddsPorts earlier now type size firsts ports → first ≡ length now.nets → AddsFresh now later (size ports) type
     → AddsPorts earlier later type size (firsts ++ first ∷ []) (ports + 1)
 ports_more earlier now later type size firsts ports first is at more = record {
   adds = subst (λ (n : ℕ). AddsFresh earlier later (before size n) type) (sym (add-one ports)) (fresh_then earlier now later (before size ports) (size ports) type is.adds more);
@@ -91,7 +92,9 @@ plain_ports (Role.RootOutput number) outputs is = absurd (false≢true (sym is))
 plain_ports _ outputs is = refl
 
 -- a port of a block that is no root output has a width
-pub width_there : (diagram : Diagram) (block port : ℕ) (b : Block) → IsChecked diagram → slice_get diagram.blocks block ≡ Some b → 1 ≤ port → port ≤ shown_ports b.kind b.outputs → is_output_role (row_of b.kind).place.role ≡ false
+pub width_there : (diagram : Diagram) (block port : ℕ) (b : Block) → IsChecked diagram
+    → slice_get diagram.blocks block ≡ Some b → 1 ≤ port → port ≤ shown_ports b.kind b.outputs
+    → is_output_role (row_of b.kind).place.role ≡ false
     → port - 1 < length (slice_index_or (widths_of diagram) block [])
 width_there diagram block port b checked at from to plain =
     let wide = (widths_at diagram checked block b at).0 in
@@ -124,7 +127,9 @@ blocks_none diagram now columns firsts none size = record {
   are = λ block b below at. absurd (omega (arith, below));
 }
 
-pub blocks_more : (diagram : Diagram) (earlier now later : Circuit) (columns : List ℕ) (firsts : List (List ℕ)) (place : ℕ) (one : Block) (mine : List ℕ) → AddsBlocks diagram earlier now columns firsts place → slice_get diagram.blocks place ≡ Some one
+pub blocks_more : (diagram : Diagram) (earlier now later : Circuit) (columns : List ℕ) (firsts : List (List ℕ))
+    (place : ℕ) (one : Block) (mine : List ℕ) → AddsBlocks diagram earlier now columns firsts place
+    → slice_get diagram.blocks place ≡ Some one
     → AddsBlock diagram now later (slice_index_or columns place 0) place one mine → AddsBlocks diagram earlier later columns (firsts ++ mine ∷ []) (place + 1)
 blocks_more diagram earlier now later columns firsts place one mine is one_at more = record {
   count = length-append firsts (mine ∷ []) ∙ omega (arith, is.count);
@@ -143,7 +148,9 @@ blocks_more diagram earlier now later columns firsts place one mine is one_at mo
   are = λ block b below at.
       elim (cases_lt block place) [
         | inl less ↦
-            subst (λ (xs : List ℕ). AreFirsts diagram (hub_start diagram block) (slice_index_or columns block 0) block b xs) (sym (front_list firsts mine block (omega (arith, less, is.count)))) (is.are block b less at)
+            subst (λ (xs : List ℕ). AreFirsts diagram (hub_start diagram block)
+            (slice_index_or columns block 0) block b xs)
+            (sym (front_list firsts mine block (omega (arith, less, is.count)))) (is.are block b less at)
         | inr past ↦ last block b (omega (arith, past, below)) at
       ];
 }
@@ -156,10 +163,15 @@ blocks_more diagram earlier now later columns firsts place one mine is one_at mo
 
     here : AreFirsts diagram (hub_start diagram place) (slice_index_or columns place 0) place one (slice_index_or (firsts ++ mine ∷ []) place [])
     here =
-        subst (λ (xs : List ℕ). AreFirsts diagram (hub_start diagram place) (slice_index_or columns place 0) place one xs) (sym (ap (λ (x : ℕ). slice_index_or (firsts ++ mine ∷ []) x []) (sym is.count) ∙ last_list firsts mine))
+        subst (λ (xs : List ℕ). AreFirsts diagram (hub_start diagram place)
+        (slice_index_or columns place 0) place one xs)
+        (sym (ap (λ (x : ℕ). slice_index_or (firsts ++ mine ∷ []) x []) (sym is.count)
+        ∙ last_list firsts mine))
         (subst (λ (n : ℕ). AreFirsts diagram n (slice_index_or columns place 0) place one mine) is.size more.are)
 
-    last : (block : ℕ) (b : Block) → block ≡ place → slice_get diagram.blocks block ≡ Some b → AreFirsts diagram (hub_start diagram block) (slice_index_or columns block 0) block b (slice_index_or (firsts ++ mine ∷ []) block [])
+    last : (block : ℕ) (b : Block) → block ≡ place → slice_get diagram.blocks block ≡ Some b
+        → AreFirsts diagram (hub_start diagram block) (slice_index_or columns block 0) block b
+        (slice_index_or (firsts ++ mine ∷ []) block [])
     last block b same at =
         let b_is : one ≡ b = same_Some one b (sym one_at ∙ ap (slice_get diagram.blocks) (sym same) ∙ at) in
         subst (λ (x : ℕ). AreFirsts diagram (hub_start diagram x) (slice_index_or columns x 0) x b (slice_index_or (firsts ++ mine ∷ []) x [])) (sym same)
@@ -170,7 +182,9 @@ blocks_more diagram earlier now later columns firsts place one mine is one_at mo
 pub inputs_begun : (diagram : Diagram) (net : Circuit) (inputs : List ℕ) → length net.nets ≡ 0 → AddsInputs diagram net net inputs 0
 inputs_begun diagram net inputs none = record { extends = extends-self net; size = none; each = λ k block below at. absurd (omega (arith, below)) }
 
-pub inputs_more : (diagram : Diagram) (earlier now later : Circuit) (inputs : List ℕ) (count column : ℕ) → AddsInputs diagram earlier now inputs count → slice_get inputs count ≡ Some column → later ≡ with_net now (input_net ((attributes_of diagram).type_at column 1) count)
+pub inputs_more : (diagram : Diagram) (earlier now later : Circuit) (inputs : List ℕ) (count column : ℕ)
+    → AddsInputs diagram earlier now inputs count → slice_get inputs count ≡ Some column
+    → later ≡ with_net now (input_net ((attributes_of diagram).type_at column 1) count)
     → AddsInputs diagram earlier later inputs (count + 1)
 inputs_more diagram earlier now later inputs count column is at grown = record {
   extends = extends-trans earlier now later is.extends more;

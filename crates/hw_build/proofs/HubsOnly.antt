@@ -143,7 +143,10 @@ module _ (diagram : Diagram) (earlier later : Circuit) (firsts : List (List ℕ)
       let low = place.0 in
       let high = place.1 in
       let n : ℕ = hub_at firsts block port element in
-      let owner : owner_of diagram n ≡ block = owner_is (own_hubs diagram) (length diagram.blocks) block (n - length roots) (slice_get_within diagram.blocks block b shown.block_is) (omega (arith, low)) (omega (arith, low, high)) in
+      let owner : owner_of diagram n ≡ block =
+      owner_is (own_hubs diagram) (length diagram.blocks) block (n - length roots)
+      (slice_get_within diagram.blocks block b shown.block_is) (omega (arith, low))
+      (omega (arith, low, high)) in
       cond-false {A = ℕ} (nat_lt n (length roots)) 0 (hub_level (place_of (owner_of diagram n))) (le-ltb n (length roots) (omega (arith, low))) ∙ ap (λ (x : ℕ). hub_level (place_of x)) owner
 
   pub fresh_other : (block : ℕ) (b : Block) (port element : ℕ) → IsShown diagram (attributes_of diagram) block b port element → is_input_role (row_of b.kind).place.role ≡ false
@@ -173,8 +176,12 @@ pub record IsRootHub (diagram : Diagram) (firsts : List (List ℕ)) (block port 
   pub at : slice_get (root_inputs diagram (attributes_of diagram)) (hub_at firsts block port element) ≡ Some (root_element (attributes_of diagram) number block element)
   pub first : port ≡ 1
 
-module _ (diagram : Diagram) (order : List ℕ) (earlier later : Circuit) (firsts : List (List ℕ)) (has : HasHubs diagram earlier later firsts) (listed : InputsAreListed) (ordered : IsOrdered diagram order) where
-  pub root_hub : (block : ℕ) (b : Block) (port element : ℕ) → IsShown diagram (attributes_of diagram) block b port element → is_input_role (row_of b.kind).place.role ≡ true → IsRootHub diagram firsts block port element
+module _ (diagram : Diagram) (order : List ℕ) (earlier later : Circuit) (firsts : List (List ℕ))
+    (has : HasHubs diagram earlier later firsts) (listed : InputsAreListed)
+    (ordered : IsOrdered diagram order) where
+  pub root_hub : (block : ℕ) (b : Block) (port element : ℕ)
+      → IsShown diagram (attributes_of diagram) block b port element
+      → is_input_role (row_of b.kind).place.role ≡ true → IsRootHub diagram firsts block port element
   root_hub block b port element shown input =
       let one = one_port b.kind b.inputs b.outputs (readable_at diagram ordered.checked.wired block b shown.block_is).ports input in
       let from = shown.port_from in
@@ -190,7 +197,9 @@ module _ (diagram : Diagram) (order : List ℕ) (earlier later : Circuit) (first
       let here : hub_at firsts block port element ≡ found.0 = ap (λ (p : ℕ). hub_at firsts block p element) first ∙ has.of_inputs found.0 e found.1 in
       record { number = number.0; at = ap (slice_get (root_inputs diagram (attributes_of diagram))) here ∙ found.1; first = first }
 
-module _ (diagram : Diagram) (order : List ℕ) (earlier later : Circuit) (firsts : List (List ℕ)) (has : HasHubs diagram earlier later firsts) (listed : InputsAreListed) (valid : TypesAreValid) (ordered : IsOrdered diagram order) where
+module _ (diagram : Diagram) (order : List ℕ) (earlier later : Circuit) (firsts : List (List ℕ))
+    (has : HasHubs diagram earlier later firsts) (listed : InputsAreListed) (valid : TypesAreValid)
+    (ordered : IsOrdered diagram order) where
   abbrev all_roots : List RootElement
   all_roots = root_inputs diagram (attributes_of diagram)
 
@@ -211,7 +220,10 @@ module _ (diagram : Diagram) (order : List ℕ) (earlier later : Circuit) (first
         let k : ℕ = place.0 in
         let inside = slice_get_within all_roots k place.1 place.2 in
         let here : hub_at firsts block port element ≡ k = place.3 in
-        let flat : start_level diagram place_of (hub_at firsts block port element) ≡ 0 = ap (start_level diagram place_of) here ∙ cond-true {A = ℕ} (nat_lt k (length all_roots)) 0 (hub_level (place_of (owner_of diagram k))) (lt-ltb k (length all_roots) inside) in (
+        let flat : start_level diagram place_of (hub_at firsts block port element) ≡ 0 =
+        ap (start_level diagram place_of) here
+        ∙ cond-true {A = ℕ} (nat_lt k (length all_roots)) 0 (hub_level (place_of (owner_of diagram k)))
+        (lt-ltb k (length all_roots) inside) in (
           omega (arith, here, inside),
           record { net = input_net place.1.type k; is = ap (slice_get later.nets) here ∙ has.inputs k place.1 place.2; wide = ap width_of place.4; sign = ap is_signed place.4 },
           omega (arith, flat),
@@ -227,13 +239,20 @@ module _ (diagram : Diagram) (order : List ℕ) (earlier later : Circuit) (first
         )
   ]
 
-  pub hubs_begun : (places : Places) (place_of : ℕ → ℕ) → ((block : ℕ) (b : Block) (port element : ℕ) → IsShown diagram (attributes_of diagram) block b port element → places.after block port element ≡ hub_at firsts block port element)
+  pub hubs_begun : (places : Places) (place_of : ℕ → ℕ)
+      → ((block : ℕ) (b : Block) (port element : ℕ) → IsShown diagram (attributes_of diagram) block b port element
+      → places.after block port element ≡ hub_at firsts block port element)
       → HaveHubs diagram places place_of (hubs_in_all diagram) later (start_level diagram place_of)
   hubs_begun places place_of named = record {
     there = let size = has.size in omega (arith, size);
     below = λ block b port element shown. let e = named block b port element shown in let h = (facts_of place_of block b port element shown).0 in omega (arith, e, h);
-    words = λ block b port element shown. subst (λ (n : ℕ). HasWord later.nets n (width_of ((attributes_of diagram).type_at block port)) (is_signed ((attributes_of diagram).type_at block port))) (sym (named block b port element shown)) (facts_of place_of block b port element shown).1;
-    levels = λ block b port element shown. subst (λ (n : ℕ). start_level diagram place_of n ≤ hub_level (place_of block)) (sym (named block b port element shown)) (facts_of place_of block b port element shown).2;
+    words = λ block b port element shown. subst
+        (λ (n : ℕ). HasWord later.nets n (width_of ((attributes_of diagram).type_at block port))
+        (is_signed ((attributes_of diagram).type_at block port))) (sym (named block b port element shown))
+        (facts_of place_of block b port element shown).1;
+    levels = λ block b port element shown. subst
+        (λ (n : ℕ). start_level diagram place_of n ≤ hub_level (place_of block))
+        (sym (named block b port element shown)) (facts_of place_of block b port element shown).2;
   }
 
   pub sound_begun : AreSound (length all_roots) (hubs_in_all diagram) later (length all_roots)
@@ -245,7 +264,9 @@ module _ (diagram : Diagram) (order : List ℕ) (earlier later : Circuit) (first
           let of = (listed diagram (attributes_of diagram) ordered.checked.wired).elements_of k e e_at in
           let typed : e.type ≡ (attributes_of diagram).type_at e.block 1 = ap (λ (x : RootElement). x.type) of.4 in
           let type : IsType e.type = subst IsType (sym typed) (valid diagram order e.block of.0 ordered of.1).0 in
-          inr (subst (λ (n : Net). IsSoundNet later (length all_roots) n) (same_Some (input_net e.type k) net (sym (has.inputs k e e_at) ∙ at)) (sound_input later (length all_roots) k e.type type less))
+          inr (subst (λ (n : Net). IsSoundNet later (length all_roots) n)
+          (same_Some (input_net e.type k) net (sym (has.inputs k e e_at) ∙ at))
+          (sound_input later (length all_roots) k e.type type less))
       | inr past ↦ let size = has.size in let inside = slice_get_within later.nets k net at in inl (omega (arith, past), omega (arith, inside, size))
     ];
   }

@@ -27,11 +27,15 @@ apart_none hub_of count hub begin stages = record {
 
 -- one more, whose mark and net are none that are there
 with_one : (hub_of : Mark → ℕ) (labels : List NetLabel) (count hub begin stages more later first next : ℕ) (mark : Mark) (label : NetLabel) → AreApart hub_of labels count hub begin stages
-    → ((one : Mark) (other : NetLabel) → IsMarkOf hub_of count hub begin stages one other → IsMarkOf hub_of more later first next one other) → IsMarkOf hub_of more later first next mark label → IsSmallMark mark → label.name ≡ mark_name mark
+    → ((one : Mark) (other : NetLabel) → IsMarkOf hub_of count hub begin stages one other
+    → IsMarkOf hub_of more later first next one other) → IsMarkOf hub_of more later first next mark label
+    → IsSmallMark mark → label.name ≡ mark_name mark
     → ((one : Mark) (other : NetLabel) → IsMarkOf hub_of count hub begin stages one other → (one ≢ mark) × (other.net ≢ label.net)) → AreApart hub_of (labels ++ label ∷ []) more later first next
 with_one hub_of labels count hub begin stages more later first next mark label are keeps own small name apart = record {
   marks = are.marks ++ mark ∷ [];
-  named = map_more (λ (l : NetLabel). l.name) labels label ∙ ap (λ (names : List (List ℕ)). names ++ label.name ∷ []) are.named ∙ ap (λ (n : List ℕ). map mark_name are.marks ++ n ∷ []) name ∙ sym (map_more mark_name are.marks mark);
+  named = map_more (λ (l : NetLabel). l.name) labels label
+      ∙ ap (λ (names : List (List ℕ)). names ++ label.name ∷ []) are.named
+      ∙ ap (λ (n : List ℕ). map mark_name are.marks ++ n ∷ []) name ∙ sym (map_more mark_name are.marks mark);
   small = λ k one at. elim (split-last are.marks mark one k at) [
     | inl front ↦ are.small k one front.1
     | inr last ↦ subst IsSmallMark last.1 small
@@ -84,10 +88,15 @@ with_one hub_of labels count hub begin stages more later first next mark label a
     mark_at k one at = let low = slice_get_within labels k one at in let e = same_length in (get_or are.marks k no_mark, slice_get-get_or are.marks k no_mark (omega (arith, low, e)))
 
 -- the next stage of a pipeline
-apart_stage : (hub_of : Mark → ℕ) (labels : List NetLabel) (count hub begin stages block element : ℕ) → AreApart hub_of labels count hub begin stages → hub_of (record { block = block; element = element; stage = suc stages }) ≡ hub → IsSmallMark (record { block = block; element = element; stage = suc stages }) → count ≤ begin + 1
+apart_stage : (hub_of : Mark → ℕ) (labels : List NetLabel) (count hub begin stages block element : ℕ)
+    → AreApart hub_of labels count hub begin stages
+    → hub_of (record { block = block; element = element; stage = suc stages }) ≡ hub
+    → IsSmallMark (record { block = block; element = element; stage = suc stages }) → count ≤ begin + 1
     → AreApart hub_of (labels ++ record { net = begin + suc stages; name = stage_name block element (suc stages) } ∷ []) count hub begin (suc stages)
 apart_stage hub_of labels count hub begin stages block element are here small up =
-    with_one hub_of labels count hub begin stages count hub begin (suc stages) (record { block = block; element = element; stage = suc stages }) (record { net = begin + suc stages; name = stage_name block element (suc stages) }) are
+    with_one hub_of labels count hub begin stages count hub begin (suc stages)
+    (record { block = block; element = element; stage = suc stages })
+    (record { net = begin + suc stages; name = stage_name block element (suc stages) }) are
     (λ one other is. elim is [
       | inl early ↦ inl early
       | inr own ↦ let most = own.2 in inr (own.0, own.1, omega (arith, most), own.3)
@@ -104,8 +113,12 @@ apart_stage hub_of labels count hub begin stages block element are here small up
       )
     ])
 
-pub apart_stages : (hub_of : Mark → ℕ) (labels : List NetLabel) (count hub begin block element : ℕ) → AreApart hub_of labels count hub 0 0 → count ≤ begin + 1 → block < 2 ^ 64 → element < 2 ^ 64 → (stages : ℕ) → stages < 2 ^ 64
-    → ((stage : ℕ) → stage ≤ stages → 1 ≤ stage → hub_of (record { block = block; element = element; stage = stage }) ≡ hub) → AreApart hub_of (labels ++ stage_labels begin block element stages) count hub begin stages
+pub apart_stages : (hub_of : Mark → ℕ) (labels : List NetLabel) (count hub begin block element : ℕ)
+    → AreApart hub_of labels count hub 0 0 → count ≤ begin + 1 → block < 2 ^ 64 → element < 2 ^ 64 → (stages : ℕ)
+    → stages < 2 ^ 64
+    → ((stage : ℕ) → stage ≤ stages → 1 ≤ stage
+    → hub_of (record { block = block; element = element; stage = stage }) ≡ hub)
+    → AreApart hub_of (labels ++ stage_labels begin block element stages) count hub begin stages
 apart_stages hub_of labels count hub begin block element are up low mid zero high here = record {
   marks = are.marks;
   named = ap (map (λ (l : NetLabel). l.name)) (append-nil labels) ∙ are.named;
@@ -115,16 +128,24 @@ apart_stages hub_of labels count hub begin block element are up low mid zero hig
     | inr own ↦ let a = own.1 in let b = own.2 in absurd (omega (arith, a, b))
   ];
   differ = are.differ;
-  nets_differ = λ i j one other less at there. are.nets_differ i j one other less (sym (ap (λ (ls : List NetLabel). slice_get ls i) (append-nil labels)) ∙ at) (sym (ap (λ (ls : List NetLabel). slice_get ls j) (append-nil labels)) ∙ there);
+  nets_differ = λ i j one other less at there. are.nets_differ i j one other less
+      (sym (ap (λ (ls : List NetLabel). slice_get ls i) (append-nil labels)) ∙ at)
+      (sym (ap (λ (ls : List NetLabel). slice_get ls j) (append-nil labels)) ∙ there);
 }
 apart_stages hub_of labels count hub begin block element are up low mid (suc stages) high here =
     let rest = apart_stages hub_of labels count hub begin block element are up low mid stages (omega (arith, high)) (λ stage most some. here stage (omega (arith, most)) some) in
     let next = apart_stage hub_of (labels ++ stage_labels begin block element stages) count hub begin stages block element rest (here (suc stages) (omega arith) (omega arith)) (low, mid, high) up in
-    subst (λ (ls : List NetLabel). AreApart hub_of ls count hub begin (suc stages)) (append_assoc labels (stage_labels begin block element stages) (record { net = begin + suc stages; name = stage_name block element (suc stages) } ∷ [])) next
+    subst (λ (ls : List NetLabel). AreApart hub_of ls count hub begin (suc stages))
+    (append_assoc labels (stage_labels begin block element stages)
+    (record { net = begin + suc stages; name = stage_name block element (suc stages) } ∷ [])) next
 
 -- and then the multiplication, if there is one: the element is done
-pub apart_product : (hub_of : Mark → ℕ) (labels : List NetLabel) (count hub begin stages total block element : ℕ) → AreApart hub_of labels count hub begin stages → count ≤ total → begin + stages < total → block < 2 ^ 64 → element < 2 ^ 64 → (multiply : Option ℕ)
-    → ((m : ℕ) → multiply ≡ Some m → (count ≤ m) × (m ≤ begin) × (hub_of (record { block = block; element = element; stage = 0 }) ≡ hub)) → AreApart hub_of (labels ++ product_labels block element multiply) total (suc hub) 0 0
+pub apart_product : (hub_of : Mark → ℕ) (labels : List NetLabel) (count hub begin stages total block element : ℕ)
+    → AreApart hub_of labels count hub begin stages → count ≤ total → begin + stages < total → block < 2 ^ 64
+    → element < 2 ^ 64 → (multiply : Option ℕ)
+    → ((m : ℕ) → multiply ≡ Some m → (count ≤ m) × (m ≤ begin)
+    × (hub_of (record { block = block; element = element; stage = 0 }) ≡ hub))
+    → AreApart hub_of (labels ++ product_labels block element multiply) total (suc hub) 0 0
 apart_product hub_of labels count hub begin stages total block element are up inside low mid None own = record {
   marks = are.marks;
   named = ap (map (λ (l : NetLabel). l.name)) (append-nil labels) ∙ are.named;
@@ -134,7 +155,9 @@ apart_product hub_of labels count hub begin stages total block element are up in
     | inr here ↦ let a = here.0 in let b = here.2 in let e = here.3 in inl (omega (arith, a), omega (arith, b, e, inside))
   ];
   differ = are.differ;
-  nets_differ = λ i j one other less at there. are.nets_differ i j one other less (sym (ap (λ (ls : List NetLabel). slice_get ls i) (append-nil labels)) ∙ at) (sym (ap (λ (ls : List NetLabel). slice_get ls j) (append-nil labels)) ∙ there);
+  nets_differ = λ i j one other less at there. are.nets_differ i j one other less
+      (sym (ap (λ (ls : List NetLabel). slice_get ls i) (append-nil labels)) ∙ at)
+      (sym (ap (λ (ls : List NetLabel). slice_get ls j) (append-nil labels)) ∙ there);
 }
 apart_product hub_of labels count hub begin stages total block element are up inside low mid (Some m) own =
     let is = own m refl in

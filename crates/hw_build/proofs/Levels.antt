@@ -62,7 +62,18 @@ module _ (before after : Circuit) (level : ℕ → ℕ) (own : ℕ) (named : Lis
 
     counter_zero : (k : ℕ) → IsCounter after.nets k → level_behind before after level own k ≡ 0
     counter_zero k counter = elim (cases_lt k (length before.nets)) [
-      | inl inside ↦ at_before k inside ∙ levelled.counters k (record { frame = counter.frame; at = record { net = counter.at.net; is = stood-there before after k counter.at.net appends.extends inside counter.at.is; counts = counter.at.counts } })
+      | inl inside ↦ at_before k inside ∙ levelled.counters k
+          (record {
+            frame = counter.frame;
+            at =
+                record {
+                  net = counter.at.net;
+                  is =
+                      stood-there before after k counter.at.net appends.extends inside counter.at.is;
+                  counts =
+                      counter.at.counts;
+                };
+          })
       | inr past ↦ at_after k counter.at.net past counter.at.is ∙ counter_level own counter.at.net.kind counter.frame counter.at.counts
     ]
 
@@ -70,7 +81,10 @@ module _ (before after : Circuit) (level : ℕ → ℕ) (own : ℕ) (named : Lis
         → (level_behind before after level own read < level_behind before after level own k) ⊎ ((level_behind before after level own read ≡ level_behind before after level own k) × (read < k))
     new_below k net i read past at reads may =
         let own_level : level_behind before after level own k ≡ own = at_after k net past at ∙ some_read own (reads_now net.kind) i read reads in
-        let by : level_behind before after level own read ≤ own → read < k → (level_behind before after level own read < level_behind before after level own k) ⊎ ((level_behind before after level own read ≡ level_behind before after level own k) × (read < k)) =
+        let by : level_behind before after level own read ≤ own → read < k
+        → (level_behind before after level own read < level_behind before after level own k)
+        ⊎ ((level_behind before after level own read ≡ level_behind before after level own k)
+        × (read < k)) =
         λ less before_k. elim (cases_lt (level_behind before after level own read) own) [
           | inl lower ↦ inl (omega (arith, lower, own_level))
           | inr same ↦ inr (omega (arith, same, less, own_level), before_k)
@@ -107,8 +121,11 @@ module _ (before after : Circuit) (level : ℕ → ℕ) (own : ℕ) (named : Lis
             let read_here = at_before read there in
             (omega (arith, there, more), elim was.1 [ inl lower ↦ inl (omega (arith, lower, here, read_here)) | inr same ↦ let e = same.0 in inr (omega (arith, e, here, read_here), same.1) ])
         | inr past ↦
-            let is = appends.each k net past at in
-            (reads_then (λ (x : ℕ). x < length after.nets) net.kind i read is.there reads, new_below k net i read past at reads (held (MayReadNow before after named k) (reads_now net.kind) i read is.now reads))
+            let is = appends.each k net past at in (
+              reads_then (λ (x : ℕ). x < length after.nets) net.kind i read is.there reads,
+              new_below k net i read past at reads
+                  (held (MayReadNow before after named k) (reads_now net.kind) i read is.now reads),
+            )
       ];
       counters = counter_zero;
     }
@@ -123,7 +140,9 @@ abbrev pub given : Net → ℕ → Net
 given net argument = record net { kind = Comb Resize (argument ∷ []) }
 
 pub connected_here : (before after : Circuit) (number argument : ℕ) (is : IsConnected before after number argument) → slice_get after.nets number ≡ Some (given is.net argument)
-connected_here before after number argument is = ap (λ (c : Circuit). slice_get c.nets number) is.is ∙ set_there before.nets number (given is.net argument) (slice_get_within before.nets number is.net is.was)
+connected_here before after number argument is =
+    ap (λ (c : Circuit). slice_get c.nets number) is.is
+    ∙ set_there before.nets number (given is.net argument) (slice_get_within before.nets number is.net is.was)
 
 pub connected_elsewhere : (before after : Circuit) (number argument k : ℕ) (is : IsConnected before after number argument) → k ≢ number → slice_get after.nets k ≡ slice_get before.nets k
 connected_elsewhere before after number argument k is differs = ap (λ (c : Circuit). slice_get c.nets k) is.is ∙ set_elsewhere before.nets number k (given is.net argument) differs
@@ -131,13 +150,18 @@ connected_elsewhere before after number argument k is differs = ap (λ (c : Circ
 pub connected_length : (before after : Circuit) (number argument : ℕ) (is : IsConnected before after number argument) → length after.nets ≡ length before.nets
 connected_length before after number argument is = ap (λ (c : Circuit). length c.nets) is.is ∙ length-set before.nets number (given is.net argument)
 
-pub levelled_by_connect : (before after : Circuit) (level : ℕ → ℕ) (number argument : ℕ) → IsConnected before after number argument → argument < length before.nets → level argument < level number → IsLevelled before.nets level → IsLevelled after.nets level
+pub levelled_by_connect : (before after : Circuit) (level : ℕ → ℕ) (number argument : ℕ)
+    → IsConnected before after number argument → argument < length before.nets → level argument < level number
+    → IsLevelled before.nets level → IsLevelled after.nets level
 levelled_by_connect before after level number argument is there lower levelled =
     let size = connected_length before after number argument is in
     record {
       below = λ k net i read at reads. elim (cases_eq k number) [
         | inl same ↦
-            let own : ◌≡◌ {A = Net} (given is.net argument) net = same_Some (given is.net argument) net (sym (connected_here before after number argument is) ∙ ap (slice_get after.nets) (sym same) ∙ at) in
+            let own : ◌≡◌ {A = Net} (given is.net argument) net =
+            same_Some (given is.net argument) net
+            (sym (connected_here before after number argument is) ∙ ap (slice_get after.nets) (sym same)
+            ∙ at) in
             let reads_it : slice_get (argument ∷ []) i ≡ Some read = ap (λ (n : Net). slice_get (reads_now n.kind) i) own ∙ reads in
             let e : read ≡ argument = only_one i argument read reads_it in
             (omega (arith, e, there, size), inl (subst (λ (x : ℕ). level x < level k) (sym e) (subst (λ (x : ℕ). level argument < level x) (sym same) lower)))
@@ -148,9 +172,22 @@ levelled_by_connect before after level number argument is there lower levelled =
       ];
       counters = λ k counter. elim (cases_eq k number) [
         | inl same ↦
-            let own : ◌≡◌ {A = Net} (given is.net argument) counter.at.net = same_Some (given is.net argument) counter.at.net (sym (connected_here before after number argument is) ∙ ap (slice_get after.nets) (sym same) ∙ counter.at.is) in
+            let own : ◌≡◌ {A = Net} (given is.net argument) counter.at.net =
+            same_Some (given is.net argument) counter.at.net
+            (sym (connected_here before after number argument is) ∙ ap (slice_get after.nets) (sym same)
+            ∙ counter.at.is) in
             absurd (none-some counter.frame (ap (λ (n : Net). counted_frame n.kind) own ∙ counter.at.counts))
-        | inr differs ↦ levelled.counters k (record { frame = counter.frame; at = record { net = counter.at.net; is = sym (connected_elsewhere before after number argument k is differs) ∙ counter.at.is; counts = counter.at.counts } })
+        | inr differs ↦ levelled.counters k (record {
+          frame = counter.frame;
+          at =
+              record {
+                net = counter.at.net;
+                is =
+                    sym (connected_elsewhere before after number argument k is differs) ∙ counter.at.is;
+                counts =
+                    counter.at.counts;
+              };
+        })
       ];
     }
   where
@@ -165,7 +202,9 @@ levelled_by_connect before after level number argument is there lower levelled =
     only_one (suc i) argument read at = absurd (none-some read at)
 
 -- a hub that is open gets its argument
-pub goes_connected : (closed hubs : ℕ) (before after : Circuit) (number argument : ℕ) (old : List ℕ) (is : IsConnected before after number argument) → is.net.kind ≡ Comb Resize old → closed ≤ number → number < hubs → GoesOn closed hubs before after
+pub goes_connected : (closed hubs : ℕ) (before after : Circuit) (number argument : ℕ) (old : List ℕ)
+    (is : IsConnected before after number argument) → is.net.kind ≡ Comb Resize old → closed ≤ number
+    → number < hubs → GoesOn closed hubs before after
 goes_connected closed hubs before after number argument old is kind low high = record {
   cycles = ap (λ (c : Circuit). c.cycles) is.is;
   nets = λ k inside. elim (cases_lt k number) [
@@ -227,17 +266,23 @@ pub register_level : (before after : Circuit) (level : ℕ → ℕ) (own number 
 register_level before after level own number is =
     let there : ◌≡◌ {A = Net} (net_at after.nets number) is.net = get_or_from_slice_get after.nets number is.net _ is.is in
     let kind : (net_at after.nets number).kind ≡ Reg is.frame is.slot is.first is.from = ap (λ (n : Net). n.kind) there ∙ is.holds in
-    cond-false {A = ℕ} (nat_lt number (length before.nets)) (level number) (level_of own (reads_now (net_at after.nets number).kind)) (le-ltb number (length before.nets) is.new) ∙ ap (λ (k : NetKind). level_of own (reads_now k)) kind
+    cond-false {A = ℕ} (nat_lt number (length before.nets)) (level number)
+    (level_of own (reads_now (net_at after.nets number).kind)) (le-ltb number (length before.nets) is.new)
+    ∙ ap (λ (k : NetKind). level_of own (reads_now k)) kind
 
 -- an answer that is the source, or was put in
-pub answer_level : (before after : Circuit) (level : ℕ → ℕ) (own from number : ℕ) → from < length before.nets → level from ≤ own → (number ≡ from) ⊎ (length before.nets ≤ number) → level_behind before after level own number ≤ own
+pub answer_level : (before after : Circuit) (level : ℕ → ℕ) (own from number : ℕ) → from < length before.nets
+    → level from ≤ own → (number ≡ from) ⊎ (length before.nets ≤ number)
+    → level_behind before after level own number ≤ own
 answer_level before after level own from number there low (inl same) =
     let e = level_stays before after level own from there in
     subst (λ (n : ℕ). level_behind before after level own n ≤ own) (sym same) (omega (arith, e, low))
 answer_level before after level own from number there low (inr past) = new_level before after level own number past
 
 -- a result that is an argument, or was put in
-pub result_level : (before after : Circuit) (level : ℕ → ℕ) (own number : ℕ) (args : List ℕ) → ((read : ℕ) → Contains args read → (read < length before.nets) × (level read ≤ own)) → Contains args number ⊎ (length before.nets ≤ number) → level_behind before after level own number ≤ own
+pub result_level : (before after : Circuit) (level : ℕ → ℕ) (own number : ℕ) (args : List ℕ)
+    → ((read : ℕ) → Contains args read → (read < length before.nets) × (level read ≤ own))
+    → Contains args number ⊎ (length before.nets ≤ number) → level_behind before after level own number ≤ own
 result_level before after level own number args low (inl among) =
     let is = low number among in
     let e = level_stays before after level own number is.0 in

@@ -35,8 +35,12 @@ use Rattle.hw_build.proofs.EdgeLags.{lag_is_slack}
 use Rattle.hw_build.proofs.Limits.{little_late}
 use Rattle.hw_build.proofs.WantFacts.{lag_into_small}
 
-use_by : (timing : Timing) (from p block own seen : ℕ) (lag : Option ℕ) → seen ≡ timing.latency block + added lag → ◌≡◌ {A = Use} (record { shift = seen - latency_after timing p from; period = own }) (use_into timing from p block own lag)
-use_by timing from p block own seen None e = let same : seen - latency_after timing p from ≡ timing.latency block - latency_after timing p from = omega (arith, e) in ap (λ (n : ℕ). record { shift = n; period = own }) same
+use_by : (timing : Timing) (from p block own seen : ℕ) (lag : Option ℕ) → seen ≡ timing.latency block + added lag
+    → ◌≡◌ {A = Use} (record { shift = seen - latency_after timing p from; period = own })
+    (use_into timing from p block own lag)
+use_by timing from p block own seen None e =
+    let same : seen - latency_after timing p from ≡ timing.latency block - latency_after timing p from =
+    omega (arith, e) in ap (λ (n : ℕ). record { shift = n; period = own }) same
 use_by timing from p block own seen (Some lag) e = ap (λ (n : ℕ). record { shift = n - latency_after timing p from; period = own }) e
 
 no_later : (timing : Timing) (from p block own : ℕ) (lag : Option ℕ) → IsEdgeInTime timing from p block own lag → latency_after timing p from ≤ timing.latency block + added lag
@@ -52,7 +56,9 @@ pub record IsLineAsked (diagram : Diagram) (timing : Timing) (from p block : ℕ
   pub asked : ◌≡◌ {A = Use} (record { shift = seen - latency_after timing p from; period = own }) (use_into timing from p block own lag)
   pub has : is_some lag ≡ registered own
 
-module _ (lines : LinesAreEdges) (joins : EdgesJoinPeriods) (small : LatenciesAreSmall) (short : PeriodsAreShort) (diagram : Diagram) (plan : Resolved) (times : Times) (places : Places) (s : IsScheduled diagram plan times) (timed : IsTimed diagram (attributes_of diagram) (timing_by diagram plan times)) where
+module _ (lines : LinesAreEdges) (joins : EdgesJoinPeriods) (small : LatenciesAreSmall) (short : PeriodsAreShort)
+    (diagram : Diagram) (plan : Resolved) (times : Times) (places : Places) (s : IsScheduled diagram plan times)
+    (timed : IsTimed diagram (attributes_of diagram) (timing_by diagram plan times)) where
   pub slack_is : (from p block own : ℕ) (b : Block) → (attributes_of diagram).period_at from ≡ Some p → (attributes_of diagram).period_at block ≡ Some own → slice_get diagram.blocks block ≡ Some b
       → (arc_between diagram (attributes_of diagram) plan times.fed from block).slack ≡ slack_into (is_registered b own p) b own p
   slack_is from p block own b moves period at =
@@ -60,8 +66,13 @@ module _ (lines : LinesAreEdges) (joins : EdgesJoinPeriods) (small : LatenciesAr
       ∙ ap (λ (o : Option ℕ). (arc_into from block (is_marked times.fed from) (stages_at plan from) p (samples o) (slice_get diagram.blocks block)).slack) period
       ∙ ap (λ (o : Option Block). (arc_into from block (is_marked times.fed from) (stages_at plan from) p own o).slack) at
 
-  pub line_asked : (block : ℕ) (b : Block) (port p : ℕ) (edge : Edge) → slice_get diagram.blocks block ≡ Some b → (row_of b.kind).parameters → 1 ≤ shown_ports b.kind b.outputs → 1 ≤ port → port ≤ b.inputs → driver_of diagram block port ≡ Some edge → (attributes_of diagram).period_at edge.from ≡ Some p
-      → IsLineAsked diagram (timing_by diagram plan times) edge.from p block (lag_into diagram (attributes_of diagram) block b (Port port) p) (λ own. is_registered b own p) ((timing_by diagram plan times).latency block + (arc_between diagram (attributes_of diagram) plan times.fed edge.from block).slack)
+  pub line_asked : (block : ℕ) (b : Block) (port p : ℕ) (edge : Edge) → slice_get diagram.blocks block ≡ Some b
+      → (row_of b.kind).parameters → 1 ≤ shown_ports b.kind b.outputs → 1 ≤ port → port ≤ b.inputs
+      → driver_of diagram block port ≡ Some edge → (attributes_of diagram).period_at edge.from ≡ Some p
+      → IsLineAsked diagram (timing_by diagram plan times) edge.from p block
+      (lag_into diagram (attributes_of diagram) block b (Port port) p) (λ own. is_registered b own p)
+      ((timing_by diagram plan times).latency block
+      + (arc_between diagram (attributes_of diagram) plan times.fed edge.from block).slack)
   line_asked block b port p edge at has showing from to drives moves =
       let number = lines diagram block port edge drives in
       let join = joins diagram number.0 (record { from = edge.from; from_port = edge.from_port; to = block; target = Port port }) b p s.checked number.1 at moves in
@@ -69,7 +80,9 @@ module _ (lines : LinesAreEdges) (joins : EdgesJoinPeriods) (small : LatenciesAr
       let lag : Option ℕ = lag_into diagram (attributes_of diagram) block b (Port port) p in
       let told = lag_is_slack diagram block b port edge.from edge.from_port p own s.checked at join.1 in
       let slack = slack_is edge.from p block own b moves join.1.period at in
-      let seen : (timing_by diagram plan times).latency block + (arc_between diagram (attributes_of diagram) plan times.fed edge.from block).slack ≡ (timing_by diagram plan times).latency block + added lag =
+      let seen : (timing_by diagram plan times).latency block
+      + (arc_between diagram (attributes_of diagram) plan times.fed edge.from block).slack
+      ≡ (timing_by diagram plan times).latency block + added lag =
       ap (λ (n : ℕ). (timing_by diagram plan times).latency block + n) (slack ∙ sym told.1) in
       let in_time = end diagram (timing_by diagram plan times) places timed block b (Port port) edge.from p at showing (edge, from, to, drives, refl) moves in
       let low = no_later (timing_by diagram plan times) edge.from p block in_time.own lag in_time.edge in
@@ -80,7 +93,9 @@ module _ (lines : LinesAreEdges) (joins : EdgesJoinPeriods) (small : LatenciesAr
         period = join.1.period;
         late = omega (arith, low, seen);
         near = omega (arith, early, few, seen);
-        asked = use_by (timing_by diagram plan times) edge.from p block own ((timing_by diagram plan times).latency block + (arc_between diagram (attributes_of diagram) plan times.fed edge.from block).slack) lag seen;
+        asked = use_by (timing_by diagram plan times) edge.from p block own
+            ((timing_by diagram plan times).latency block
+            + (arc_between diagram (attributes_of diagram) plan times.fed edge.from block).slack) lag seen;
         has = told.0;
       }
 

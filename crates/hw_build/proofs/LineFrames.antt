@@ -77,26 +77,40 @@ module _ {diagram : Diagram} {order : List ℕ} {plan : Resolved} {times : Times
   frames_at place = frames_of plan times place ((attributes_of diagram).period_at place)
 
   -- a frame of a block is among those of all
-  block_frame : (block : ℕ) (frame : FramePair) → block < length diagram.blocks → Stands (frames_at block) frame → IsFramed diagram plan times (record { period = frame.period; latency = frame.latency })
+  block_frame : (block : ℕ) (frame : FramePair) → block < length diagram.blocks → Stands (frames_at block) frame
+      → IsFramed diagram plan times (record { period = frame.period; latency = frame.latency })
   block_frame block frame inside own =
       let number = stands_number 0 (length diagram.blocks) block inside in
       let here : 0 + block ≡ block = omega arith in
       let there : Stands (numbers_from 0 (length diagram.blocks)) block = subst (Stands (numbers_from 0 (length diagram.blocks))) here number in
       let among = flat_at frames_at (numbers_from 0 (length diagram.blocks)) there.place block frame there.at own in
-      let keep = kept (λ (x : FramePair). ⊤) is_same_frame (λ (x : FramePair). x) (λ x any. pair_self x) (λ x y any other e. pair_same x y e) (flat_map frames_at (numbers_from 0 (length diagram.blocks))) (record { at = λ k x at. tt }) among.place frame among.at in
+      let keep = kept (λ (x : FramePair). ⊤) is_same_frame (λ (x : FramePair). x) (λ x any. pair_self x)
+      (λ x y any other e. pair_same x y e) (flat_map frames_at (numbers_from 0 (length diagram.blocks)))
+      (record { at = λ k x at. tt }) among.place frame among.at in
       record { place = keep.stands.place; at = keep.stands.at ∙ ap (λ (x : FramePair). Some x) keep.key_is }
 
   -- the frames before a pipeline, and behind it
   own_frame : (block p : ℕ) → block < length diagram.blocks → (attributes_of diagram).period_at block ≡ Some p → IsFramed diagram plan times (record { period = p; latency = (timing l).latency block })
-  own_frame block p inside moves = block_frame block (record { period = p; latency = (timing l).latency block }) inside (subst (λ (o : Option ℕ). Stands (frames_of plan times block o) (record { period = p; latency = (timing l).latency block })) (sym moves) (record { place = 0; at = refl }))
+  own_frame block p inside moves = block_frame block
+      (record { period = p; latency = (timing l).latency block }) inside
+      (subst (λ (o : Option ℕ). Stands (frames_of plan times block o)
+      (record { period = p; latency = (timing l).latency block })) (sym moves)
+      (record { place = 0; at = refl }))
 
-  after_frame : (block p : ℕ) → block < length diagram.blocks → (attributes_of diagram).period_at block ≡ Some p → IsFramed diagram plan times (record { period = p; latency = latency_after (timing l) p block })
-  after_frame block p inside moves = block_frame block (record { period = p; latency = latency_after (timing l) p block }) inside (subst (λ (o : Option ℕ). Stands (frames_of plan times block o) (record { period = p; latency = latency_after (timing l) p block })) (sym moves) (record { place = 1; at = refl }))
+  after_frame : (block p : ℕ) → block < length diagram.blocks → (attributes_of diagram).period_at block ≡ Some p
+      → IsFramed diagram plan times (record { period = p; latency = latency_after (timing l) p block })
+  after_frame block p inside moves = block_frame block
+      (record { period = p; latency = latency_after (timing l) p block }) inside
+      (subst (λ (o : Option ℕ). Stands (frames_of plan times block o)
+      (record { period = p; latency = latency_after (timing l) p block })) (sym moves)
+      (record { place = 1; at = refl }))
 
   abbrev every_one : List Use
   every_one = uses_in_all diagram (attributes_of diagram) plan times
 
-  pub class_frame : (classes : List Class) → AreFolded (map (want_for diagram plan times firsts) every_one) classes → (c : ℕ) (one : Class) (frame : Frame) → slice_get classes c ≡ Some one → IsCountedIn (source_by one.feed) one.uses.items frame → IsFramed diagram plan times frame
+  pub class_frame : (classes : List Class) → AreFolded (map (want_for diagram plan times firsts) every_one) classes
+      → (c : ℕ) (one : Class) (frame : Frame) → slice_get classes c ≡ Some one
+      → IsCountedIn (source_by one.feed) one.uses.items frame → IsFramed diagram plan times frame
   class_frame classes folded c one frame at is = go is
     where
       -- what is so of the feed of each use is so of the class's
@@ -106,22 +120,39 @@ module _ {diagram : Diagram} {order : List ℕ} {plan : Resolved} {times : Times
           let from = map_there (want_for diagram plan times firsts) every_one fold.place fold.want fold.at in
           subst P (ap (λ (w : Want). w.feed) from.2 ∙ fold.same) (each from.0 ((every_use l).at fold.place from.0 from.1))
 
-      go : (frame ≡ one.feed.frame) ⊎ ((is_some one.feed.first ≡ false) × ((asked : Asked) × (Contains one.uses.items asked × (frame ≡ reader_of (source_by one.feed) asked)))) → IsFramed diagram plan times frame
-      go (inl same) = subst (IsFramed diagram plan times) (sym same) (of_feed (λ (f : Feed). IsFramed diagram plan times f.frame) (λ x of. after_frame x.from x.source (slice_get_within diagram.blocks x.from of.source of.shown.block_is) of.moves))
+      go : (frame ≡ one.feed.frame) ⊎ ((is_some one.feed.first ≡ false)
+          × ((asked : Asked) × (Contains one.uses.items asked × (frame ≡ reader_of (source_by one.feed) asked))))
+          → IsFramed diagram plan times frame
+      go (inl same) = subst (IsFramed diagram plan times) (sym same)
+          (of_feed (λ (f : Feed). IsFramed diagram plan times f.frame)
+          (λ x of. after_frame x.from x.source
+          (slice_get_within diagram.blocks x.from of.source of.shown.block_is) of.moves))
       go (inr late) =
           let fold = folded.each c one at in
           let feed : Feed = one.feed in
-          let own : one.uses.items ≡ map asked_of (filter (λ (x : Use). is_same_feed feed (feed_for diagram plan times firsts x)) every_one) = fold.uses_are ∙ uses_are diagram plan times firsts feed every_one in
+          let own : one.uses.items ≡ map asked_of
+          (filter (λ (x : Use). is_same_feed feed (feed_for diagram plan times firsts x)) every_one) =
+          fold.uses_are ∙ uses_are diagram plan times firsts feed every_one in
           let asked : Asked = late.1.0 in
           let among = contained one.uses.items asked late.1.1.0 in
-          let from = map_there asked_of (filter (λ (x : Use). is_same_feed feed (feed_for diagram plan times firsts x)) every_one) among.0 asked (sym (ap (λ (xs : List Asked). slice_get xs among.0) own) ∙ among.1) in
+          let from = map_there asked_of (filter
+          (λ (x : Use). is_same_feed feed (feed_for diagram plan times firsts x)) every_one) among.0 asked
+          (sym (ap (λ (xs : List Asked). slice_get xs among.0) own) ∙ among.1) in
           let reader : Use = from.0 in
           let is_use = (every_filter (IsLineUse l) (λ (x : Use). is_same_feed feed (feed_for diagram plan times firsts x)) every_one (every_use l)).at among.0 reader from.1 in
-          let same : feed ≡ feed_for diagram plan times firsts reader = feed_same feed (feed_for diagram plan times firsts reader) ((filter_holds (λ (x : Use). is_same_feed feed (feed_for diagram plan times firsts x)) every_one).at among.0 reader from.1) in
+          let same : feed ≡ feed_for diagram plan times firsts reader =
+          feed_same feed (feed_for diagram plan times firsts reader)
+          ((filter_holds (λ (x : Use). is_same_feed feed (feed_for diagram plan times firsts x))
+          every_one).at among.0 reader from.1) in
           let none : reader.first ≡ None = sym (ap (λ (f : Feed). f.first) same) ∙ none_of feed.first late.0 in
           let seen = is_use.seen none in
           let is_frame : ◌≡◌ {A = Frame} frame (record { period = seen.own; latency = (timing l).latency seen.block }) =
           late.1.1.1 ∙ ap (λ (f : Feed). reader_of (source_by f) asked) same ∙ ap (λ (u : Asked). reader_of (source_by (feed_for diagram plan times firsts reader)) u) (sym from.2)
-          ∙ ap (λ (p : ℕ). record { period = p; latency = latency_after (timing l) reader.source reader.from + reader.shift }) seen.wide ∙ ap (λ (n : ℕ). record { period = seen.own; latency = n }) seen.late
+          ∙ ap (λ (p : ℕ). record {
+            period = p;
+            latency =
+                latency_after (timing l) reader.source reader.from + reader.shift;
+          }) seen.wide
+          ∙ ap (λ (n : ℕ). record { period = seen.own; latency = n }) seen.late
           in
           subst (IsFramed diagram plan times) (sym is_frame) (own_frame seen.block seen.own seen.inside seen.period)

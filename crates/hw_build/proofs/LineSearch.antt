@@ -19,14 +19,19 @@ use Rattle.dg_tables.proofs.Ranks.{found_at}
 -- ---- a search
 
 -- it ends at the first that isn't so
-pub first_is : {A : Type 0} (test : A → Bool) (xs : List A) (i : ℕ) → i ≤ length xs → ((k : ℕ) (x : A) → k < i → slice_get xs k ≡ Some x → test x ≡ true) → ((x : A) → slice_get xs i ≡ Some x → test x ≡ false) → i ≡ first_not test xs
+pub first_is : {A : Type 0} (test : A → Bool) (xs : List A) (i : ℕ) → i ≤ length xs
+    → ((k : ℕ) (x : A) → k < i → slice_get xs k ≡ Some x → test x ≡ true)
+    → ((x : A) → slice_get xs i ≡ Some x → test x ≡ false) → i ≡ first_not test xs
 first_is test [] i within before at = omega (arith, within)
 first_is test (x ∷ xs) zero within before at = sym (ap (λ (b : Bool). cond b (suc (first_not test xs)) 0) (at x refl))
 first_is test (x ∷ xs) (suc i) within before at =
     let rest = first_is test xs i (omega (arith, within)) (λ k y less there. before (suc k) y (omega (arith, less)) there) at in
     ap suc rest ∙ sym (ap (λ (b : Bool). cond b (suc (first_not test xs)) 0) (before 0 x (omega arith) refl))
 
-pub number_is : (edges : List Edge) (block port place : ℕ) → place ≤ length edges → IsPartitionPoint (λ (edge : Edge). is_line_before block port edge ≡ true) (λ (edge : Edge). is_line_before block port edge ≡ false) edges place → place ≡ first_not (is_line_before block port) edges
+pub number_is : (edges : List Edge) (block port place : ℕ) → place ≤ length edges
+    → IsPartitionPoint (λ (edge : Edge). is_line_before block port edge ≡ true)
+    (λ (edge : Edge). is_line_before block port edge ≡ false) edges place
+    → place ≡ first_not (is_line_before block port) edges
 number_is edges block port place within point = first_is (is_line_before block port) edges place within
     (λ k edge less at. ap (is_line_before block port) (sym (get_or_from_slice_get edges k edge edge at)) ∙ point.0 k edge (omega arith) less)
     (λ edge at. ap (is_line_before block port) (sym (get_or_from_slice_get edges place edge edge at)) ∙ point.1 place edge (omega arith) (slice_get_within edges place edge at))
@@ -92,7 +97,9 @@ stands_once p (z ∷ zs) (suc i) (suc j) x y one less at there is passes =
 
 -- a line has its own number
 pub line_is : (diagram : Diagram) (number : ℕ) (edge : Edge) → IsWired diagram → slice_get diagram.edges number ≡ Some edge → line_number diagram edge.to edge.to_port ≡ number
-line_is diagram number edge wired at = sym (first_is (is_line_before edge.to edge.to_port) diagram.edges number (let inside = slice_get_within diagram.edges number edge at in omega (arith, inside)) before here)
+line_is diagram number edge wired at =
+    sym (first_is (is_line_before edge.to edge.to_port) diagram.edges number
+    (let inside = slice_get_within diagram.edges number edge at in omega (arith, inside)) before here)
   where
     here : (x : Edge) → slice_get diagram.edges number ≡ Some x → is_line_before edge.to edge.to_port x ≡ false
     here x there = ap (is_line_before edge.to edge.to_port) (same_Some x edge (sym there ∙ at)) ∙ not_before edge
@@ -113,7 +120,10 @@ line_is diagram number edge wired at = sym (first_is (is_line_before edge.to edg
     before : (k : ℕ) (other : Edge) → k < number → slice_get diagram.edges k ≡ Some other → is_line_before edge.to edge.to_port other ≡ true
     before k other less there =
         let stands = wired.ordered k number other less (slice_get_within diagram.edges number edge at) in
-        by k other less there (subst (λ (x : Edge). StandsBefore x edge) (get_or_from_slice_get diagram.edges k other other there) (subst (λ (x : Edge). StandsBefore (get_or diagram.edges k other) x) (get_or_from_slice_get diagram.edges number edge other at) stands))
+        by k other less there (subst (λ (x : Edge). StandsBefore x edge)
+        (get_or_from_slice_get diagram.edges k other other there)
+        (subst (λ (x : Edge). StandsBefore (get_or diagram.edges k other) x)
+        (get_or_from_slice_get diagram.edges number edge other at) stands))
 
 -- a port has the line that ends at it
 pub record IsLineInto (diagram : Diagram) (edge : Edge) : Type 0 where
@@ -135,13 +145,18 @@ line_into_is diagram number edge wired at =
     }
 
 -- the line that drives a port has the number that is found
-pub driver_number : (diagram : Diagram) (block port : ℕ) (edge : Edge) → IsWired diagram → driver_of diagram block port ≡ Some edge → (slice_get diagram.edges (line_number diagram block port) ≡ Some edge) × (edge.to ≡ block) × (edge.to_port ≡ port)
+pub driver_number : (diagram : Diagram) (block port : ℕ) (edge : Edge) → IsWired diagram
+    → driver_of diagram block port ≡ Some edge
+    → (slice_get diagram.edges (line_number diagram block port) ≡ Some edge) × (edge.to ≡ block)
+    × (edge.to_port ≡ port)
 driver_number diagram block port edge wired drives =
     let found = found_at (enters block port) diagram.edges edge drives in
     let parts = and_parts (edge.to == block) (edge.to_port == port) found.2 in
     let to : edge.to ≡ block = eqb-true edge.to block parts.0 in
     let to_port : edge.to_port ≡ port = eqb-true edge.to_port port parts.1 in
-    let here : line_number diagram block port ≡ found.0 = ap (λ (n : ℕ). line_number diagram n port) (sym to) ∙ ap (line_number diagram edge.to) (sym to_port) ∙ line_is diagram found.0 edge wired found.1 in
+    let here : line_number diagram block port ≡ found.0 =
+    ap (λ (n : ℕ). line_number diagram n port) (sym to) ∙ ap (line_number diagram edge.to) (sym to_port)
+    ∙ line_is diagram found.0 edge wired found.1 in
     (ap (slice_get diagram.edges) here ∙ found.1, to, to_port)
 
 -- each port has one
@@ -153,11 +168,15 @@ some_find {A} p (y ∷ ys) some = go (p y) (count_more p y ys) (some_find p ys)
     go true e rest = (y, refl)
     go false e rest = rest (omega (arith, e, some))
 
-pub driver_some : (diagram : Diagram) (block port : ℕ) (b : Block) → IsWired diagram → slice_get diagram.blocks block ≡ Some b → 1 ≤ port → port ≤ b.inputs → (edge : Edge) × (driver_of diagram block port ≡ Some edge)
+pub driver_some : (diagram : Diagram) (block port : ℕ) (b : Block) → IsWired diagram
+    → slice_get diagram.blocks block ≡ Some b → 1 ≤ port → port ≤ b.inputs
+    → (edge : Edge) × (driver_of diagram block port ≡ Some edge)
 driver_some diagram block port b wired at from to = let one = wired.driven block port b at from to in some_find (enters block port) diagram.edges (omega (arith, one))
 
 -- the line into an input is read at its number
-pub line_read : (diagram : Diagram) (block port : ℕ) (b : Block) (edges : List Edge) (number : ℕ) → IsWired diagram → slice_get diagram.blocks block ≡ Some b → 1 ≤ port → port ≤ b.inputs → edges ≡ diagram.edges → number ≡ line_number diagram block port
+pub line_read : (diagram : Diagram) (block port : ℕ) (b : Block) (edges : List Edge) (number : ℕ) → IsWired diagram
+    → slice_get diagram.blocks block ≡ Some b → 1 ≤ port → port ≤ b.inputs → edges ≡ diagram.edges
+    → number ≡ line_number diagram block port
     → (edge : Edge) × (driver_of diagram block port ≡ Some edge) × (slice_get edges number ≡ Some edge)
 line_read diagram block port b edges number wired at from to all is =
     let some = driver_some diagram block port b wired at from to in

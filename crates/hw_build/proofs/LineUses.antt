@@ -60,7 +60,9 @@ module _ {diagram : Diagram} {order : List ℕ} {plan : Resolved} {times : Times
 
   -- ---- by lines
 
-  late_uses : (number : ℕ) (line : Edge) (b : Block) (p : ℕ) → slice_get diagram.edges number ≡ Some line → slice_get diagram.blocks line.to ≡ Some b → 1 ≤ shown_ports b.kind b.outputs → period_of line.from ≡ Some p → is_registered b (samples (period_of line.to)) p ≡ true
+  late_uses : (number : ℕ) (line : Edge) (b : Block) (p : ℕ) → slice_get diagram.edges number ≡ Some line
+      → slice_get diagram.blocks line.to ≡ Some b → 1 ≤ shown_ports b.kind b.outputs → period_of line.from ≡ Some p
+      → is_registered b (samples (period_of line.to)) p ≡ true
       → Every IsLineUse (uses_by diagram (attributes_of diagram) plan times (signal_edge line) p b true)
   late_uses number line b p line_at at shows moves late =
       let width : ℕ = (attributes_of diagram).width_at line.from line.from_port in
@@ -69,13 +71,28 @@ module _ {diagram : Diagram} {order : List ℕ} {plan : Resolved} {times : Times
       let period_is : period_of line.to ≡ Some end.own = end.period in
       let flag : is_registered b end.own p ≡ true = ap (λ (n : ℕ). is_registered b n p) (sym (ap samples period_is)) ∙ late in
       let source = source_is diagram number line l.scheduled.checked.wired line_at in
-      every_map IsLineUse (λ element. use_of diagram (attributes_of diagram) plan times (signal_edge line) p (repeated width element) (initial_at (attributes_of diagram) line.to b element)) (numbers_from 0 own) (record {
+      every_map IsLineUse (λ element. use_of diagram (attributes_of diagram) plan times (signal_edge line) p
+      (repeated width element) (initial_at (attributes_of diagram) line.to b element)) (numbers_from 0 own)
+      (record {
         at = λ k element element_at.
             let low = (numbers_below 0 own).at k element element_at in
-            record { source = source.source; shown = source_element diagram line (repeated width element) l.scheduled.checked.wired source (late_serves l number line b line_at at shows p moves end.own element period_is flag (omega (arith, low))); moves = moves; seen = λ none. absurd (none-some (first_at diagram line.to element) (sym none ∙ first_is_initial diagram line.to b element at (omega (arith, low)) (late_facts l number line b line_at at shows p moves end.own period_is flag).2)) };
+            record {
+              source = source.source;
+              shown =
+                  source_element diagram line (repeated width element) l.scheduled.checked.wired source
+                  (late_serves l number line b line_at at shows p moves end.own element period_is flag
+                  (omega (arith, low)));
+              moves = moves;
+              seen =
+                  λ none. absurd (none-some (first_at diagram line.to element)
+                  (sym none ∙ first_is_initial diagram line.to b element at (omega (arith, low))
+                  (late_facts l number line b line_at at shows p moves end.own period_is flag).2));
+            };
       })
 
-  plain_uses : (number : ℕ) (line : Edge) (b : Block) (p : ℕ) → slice_get diagram.edges number ≡ Some line → slice_get diagram.blocks line.to ≡ Some b → 1 ≤ shown_ports b.kind b.outputs → period_of line.from ≡ Some p → is_registered b (samples (period_of line.to)) p ≡ false
+  plain_uses : (number : ℕ) (line : Edge) (b : Block) (p : ℕ) → slice_get diagram.edges number ≡ Some line
+      → slice_get diagram.blocks line.to ≡ Some b → 1 ≤ shown_ports b.kind b.outputs → period_of line.from ≡ Some p
+      → is_registered b (samples (period_of line.to)) p ≡ false
       → Every IsLineUse (uses_by diagram (attributes_of diagram) plan times (signal_edge line) p b false)
   plain_uses number line b p line_at at shows moves plain =
       let width : ℕ = (attributes_of diagram).width_at line.from line.from_port in
@@ -88,13 +105,32 @@ module _ {diagram : Diagram} {order : List ℕ} {plan : Resolved} {times : Times
       every_map IsLineUse (λ element. use_of diagram (attributes_of diagram) plan times (signal_edge line) p element None) (numbers_from 0 width) (record {
         at = λ k element element_at.
             let low = (numbers_below 0 width).at k element element_at in
-            record { source = source.source; shown = source_element diagram line element l.scheduled.checked.wired source (omega (arith, low)); moves = moves; seen = λ none. record { block = line.to; own = end.own; inside = slice_get_within diagram.blocks line.to b at; period = period_is; wide = ap (λ (u : Asked). max p u.period) asks ∙ frame.0; late = ap (λ (u : Asked). latency_after (timing l) p line.from + u.shift) asks ∙ frame.1 } };
+            record {
+              source = source.source;
+              shown =
+                  source_element diagram line element l.scheduled.checked.wired source (omega (arith, low));
+              moves =
+                  moves;
+              seen = λ none. record {
+                block = line.to;
+                own = end.own;
+                inside =
+                    slice_get_within diagram.blocks line.to b at;
+                period = period_is;
+                wide =
+                    ap (λ (u : Asked). max p u.period) asks ∙ frame.0;
+                late =
+                    ap (λ (u : Asked). latency_after (timing l) p line.from + u.shift) asks ∙ frame.1;
+              };
+            };
       })
 
   line_uses : (number : ℕ) (line : Edge) → slice_get diagram.edges number ≡ Some line → Every IsLineUse (uses_at (signal_edge line) (period_of line.from))
   line_uses number line line_at = by_period (period_of line.from) refl
     where
-      by_flag : (b : Block) (p : ℕ) (registered : Bool) → slice_get diagram.blocks line.to ≡ Some b → 1 ≤ shown_ports b.kind b.outputs → period_of line.from ≡ Some p → is_registered b (samples (period_of line.to)) p ≡ registered
+      by_flag : (b : Block) (p : ℕ) (registered : Bool) → slice_get diagram.blocks line.to ≡ Some b
+          → 1 ≤ shown_ports b.kind b.outputs → period_of line.from ≡ Some p
+          → is_registered b (samples (period_of line.to)) p ≡ registered
           → Every IsLineUse (uses_by diagram (attributes_of diagram) plan times (signal_edge line) p b registered)
       by_flag b p true at shows moves late = late_uses number line b p line_at at shows moves late
       by_flag b p false at shows moves plain = plain_uses number line b p line_at at shows moves plain
@@ -108,11 +144,15 @@ module _ {diagram : Diagram} {order : List ℕ} {plan : Resolved} {times : Times
       by_period None e = every_none IsLineUse
       by_period (Some p) e =
           let into = line_into_is diagram number line l.scheduled.checked.wired line_at in
-          subst (λ (o : Option Block). Every IsLineUse (uses_into diagram (attributes_of diagram) plan times (signal_edge line) p o)) (sym into.is) (by_shown into.block p (shown_ports into.block.kind into.block.outputs == 0) into.is e refl)
+          subst (λ (o : Option Block). Every IsLineUse
+          (uses_into diagram (attributes_of diagram) plan times (signal_edge line) p o)) (sym into.is)
+          (by_shown into.block p (shown_ports into.block.kind into.block.outputs == 0) into.is e refl)
 
   -- ---- by controls
 
-  control_uses : (block control : ℕ) (b : Block) → slice_get diagram.blocks block ≡ Some b → Feeds diagram block b Enable control → Every IsLineUse (uses_at (control_edge control block) (period_of control))
+  control_uses : (block control : ℕ) (b : Block) → slice_get diagram.blocks block ≡ Some b
+      → Feeds diagram block b Enable control
+      → Every IsLineUse (uses_at (control_edge control block) (period_of control))
   control_uses block control b at feeds = by_period (period_of control) refl
     where
       elements : (p : ℕ) → period_of control ≡ Some p → Every IsLineUse (uses_by diagram (attributes_of diagram) plan times (control_edge control block) p b false)
@@ -122,29 +162,59 @@ module _ {diagram : Diagram} {order : List ℕ} {plan : Resolved} {times : Times
           let period_is = control_moves l block control b at feeds p moves in
           let frame = control_frame l block control b at feeds p moves period_is.0 period_is.1 in
           let asks = use_is l (control_edge control block) p period_is.0 moves period_is.1 in
-          every_map IsLineUse (λ element. use_of diagram (attributes_of diagram) plan times (control_edge control block) p element None) (numbers_from 0 ((attributes_of diagram).width_at control 1)) (record {
+          every_map IsLineUse (λ element. use_of diagram (attributes_of diagram) plan times
+          (control_edge control block) p element None)
+          (numbers_from 0 ((attributes_of diagram).width_at control 1)) (record {
             at = λ k element element_at.
                 let low = (numbers_below 0 ((attributes_of diagram).width_at control 1)).at k element element_at in
-                record { source = of.source; shown = output_element diagram control of.source 1 element l.scheduled.checked.wired of.is (omega arith) (omega (arith, outputs)) (omega (arith, low)); moves = moves; seen = λ none. record { block = block; own = period_is.0; inside = slice_get_within diagram.blocks block b at; period = period_is.1; wide = ap (λ (u : Asked). max p u.period) asks ∙ frame.0; late = ap (λ (u : Asked). latency_after (timing l) p control + u.shift) asks ∙ frame.1 } };
+                record {
+                  source = of.source;
+                  shown =
+                      output_element diagram control of.source 1 element l.scheduled.checked.wired of.is (omega arith)
+                      (omega (arith, outputs)) (omega (arith, low));
+                  moves = moves;
+                  seen =
+                      λ none. record {
+                        block = block;
+                        own = period_is.0;
+                        inside =
+                            slice_get_within diagram.blocks block b at;
+                        period = period_is.1;
+                        wide =
+                            ap (λ (u : Asked). max p u.period) asks ∙ frame.0;
+                        late =
+                            ap (λ (u : Asked). latency_after (timing l) p control + u.shift) asks
+                            ∙ frame.1;
+                      };
+                };
           })
 
-      by_shown : (p : ℕ) (none : Bool) → period_of control ≡ Some p → Every IsLineUse (cond none [] (uses_by diagram (attributes_of diagram) plan times (control_edge control block) p b (is_registered b (samples (period_of block)) p)))
+      by_shown : (p : ℕ) (none : Bool) → period_of control ≡ Some p
+          → Every IsLineUse (cond none [] (uses_by diagram (attributes_of diagram) plan times
+          (control_edge control block) p b (is_registered b (samples (period_of block)) p)))
       by_shown p true moves = every_none IsLineUse
       by_shown p false moves =
-          let plain : is_registered b (samples (period_of block)) p ≡ false = ap (λ (o : Option ℕ). is_free o && not (is_now (row_of b.kind).timing.reads (nat_lt (samples (period_of block)) p))) feeds.0 in
+          let plain : is_registered b (samples (period_of block)) p ≡ false =
+          ap (λ (o : Option ℕ). is_free o
+          && not (is_now (row_of b.kind).timing.reads (nat_lt (samples (period_of block)) p))) feeds.0 in
           subst (λ (flag : Bool). Every IsLineUse (uses_by diagram (attributes_of diagram) plan times (control_edge control block) p b flag)) (sym plain) (elements p moves)
 
       by_period : (p : Option ℕ) → period_of control ≡ p → Every IsLineUse (uses_at (control_edge control block) p)
       by_period None e = every_none IsLineUse
-      by_period (Some p) e = subst (λ (o : Option Block). Every IsLineUse (uses_into diagram (attributes_of diagram) plan times (control_edge control block) p o)) (sym at) (by_shown p (shown_ports b.kind b.outputs == 0) e)
+      by_period (Some p) e = subst (λ (o : Option Block). Every IsLineUse
+          (uses_into diagram (attributes_of diagram) plan times (control_edge control block) p o)) (sym at)
+          (by_shown p (shown_ports b.kind b.outputs == 0) e)
 
-  every_control : (P : LatencyEdge → Type 0) (from : ℕ) (blocks : List Block) → ((k : ℕ) (b : Block) (control : ℕ) → slice_get blocks k ≡ Some b → control_ever b ≡ Some control → P (control_edge control (from + k))) → Every P (enable_edges_from from blocks)
+  every_control : (P : LatencyEdge → Type 0) (from : ℕ) (blocks : List Block)
+      → ((k : ℕ) (b : Block) (control : ℕ) → slice_get blocks k ≡ Some b → control_ever b ≡ Some control
+      → P (control_edge control (from + k))) → Every P (enable_edges_from from blocks)
   every_control P from [] each = every_none P
   every_control P from (b ∷ blocks) each =
       let here : from + 0 ≡ from = omega arith in
       every_append P (enable_edge from (asks_ever (row_of b.kind).timing.asks) b.enable) (enable_edges_from (suc from) blocks)
       (go (asks_ever (row_of b.kind).timing.asks) b.enable (λ control e. subst (λ (n : ℕ). P (control_edge control n)) here (each 0 b control refl e)))
-      (every_control P (suc from) blocks (λ k x control at e. let there : from + suc k ≡ suc from + k = omega arith in subst (λ (n : ℕ). P (control_edge control n)) there (each (suc k) x control at e)))
+      (every_control P (suc from) blocks (λ k x control at e. let there : from + suc k ≡ suc from + k =
+      omega arith in subst (λ (n : ℕ). P (control_edge control n)) there (each (suc k) x control at e)))
     where
       go : (asks : Bool) (enable : Option ℕ) → ((control : ℕ) → cond asks enable None ≡ Some control → P (control_edge control from)) → Every P (enable_edge from asks enable)
       go true None own = every_none P

@@ -31,7 +31,9 @@ module _ (closed hubs : ℕ) (before after : Circuit) (small : hubs ≤ length b
   where
     -- an end of either form, seen in a frame that is its own
     end_offered : (Shows : ℕ → Line → Wave → Wave → Type 0) (lag : Option ℕ) (first : ℤ) (seen reader_frame : Frame) → lags p ≡ lag → ◌≡◌ {A = Frame} seen reader_frame
-        → ((n : ℕ) (wave line : Wave) → Shows n (record { cycles = timing.cycles; own = frame_behind timing p from; reader = reader_frame }) wave line → IsLineInto n timing from p block own lag first wave line)
+        → ((n : ℕ) (wave line : Wave) → Shows n
+        (record { cycles = timing.cycles; own = frame_behind timing p from; reader = reader_frame }) wave line
+        → IsLineInto n timing from p block own lag first wave line)
         → InRows before after (λ n rows. Shows n (record { cycles = before.cycles; own = frame_behind timing p from; reader = seen }) (rows hub) (rows number))
         → InLater closed hubs after (λ n rows. IsOffered n timing from source block reader lags first (rows hub) (rows number))
     end_offered Shows lag first seen reader_frame lag_is seen_is into shown =
@@ -47,22 +49,31 @@ module _ (closed hubs : ℕ) (before after : Circuit) (small : hubs ≤ length b
 
     -- a plain end
     pub plain_offered : (kept first : ℤ) → lags p ≡ None → IsPlainEdge timing from p block own → 0 < own
-        → IsAnswer before after (source_of hub (frame_behind timing p from) kept false) (reader_of (source_of hub (frame_behind timing p from) kept false) (use_into timing from p block own None)) number
+        → IsAnswer before after (source_of hub (frame_behind timing p from) kept false)
+        (reader_of (source_of hub (frame_behind timing p from) kept false)
+        (use_into timing from p block own None)) number
         → InLater closed hubs after (λ n rows. IsOffered n timing from source block reader lags first (rows hub) (rows number))
     plain_offered kept first lag_is edge some answer =
         let low = part-below own p edge.divides some in
         let wide : max p own ≡ own = omega (arith, low) in
         let late : latency_after timing p from + shift_into timing from p block None ≡ timing.latency block = omega (arith, edge.behind) in
-        end_offered IsLine None first (reader_of (source_of hub (frame_behind timing p from) kept false) (use_into timing from p block own None)) (record { period = own; latency = timing.latency block }) lag_is
+        end_offered IsLine None first (reader_of (source_of hub (frame_behind timing p from) kept false)
+        (use_into timing from p block own None))
+        (record { period = own; latency = timing.latency block }) lag_is
         (frame_same (max p own) (latency_after timing p from + shift_into timing from p block None) own (timing.latency block) wide late) (λ n wave line is. is) answer.shows
 
     -- an end with registers
     pub late_offered : (lag : ℕ) (first : ℤ) → lags p ≡ Some lag → IsLateEdge timing from p block own lag → 0 < p
-        → IsAnswer before after (source_of hub (frame_behind timing p from) first true) (reader_of (source_of hub (frame_behind timing p from) first true) (use_into timing from p block own (Some lag))) number
+        → IsAnswer before after (source_of hub (frame_behind timing p from) first true)
+        (reader_of (source_of hub (frame_behind timing p from) first true)
+        (use_into timing from p block own (Some lag))) number
         → InLater closed hubs after (λ n rows. IsOffered n timing from source block reader lags first (rows hub) (rows number))
     late_offered lag first lag_is edge some answer =
         let low = part-below p own edge.divides some in
         let wide : max p own ≡ p = omega (arith, low) in
         let late : latency_after timing p from + shift_into timing from p block (Some lag) ≡ timing.latency block + lag = omega (arith, edge.behind) in
-        end_offered (λ n line source wave. IsRegistered n line first source wave) (Some lag) first (reader_of (source_of hub (frame_behind timing p from) first true) (use_into timing from p block own (Some lag))) (record { period = p; latency = timing.latency block + lag }) lag_is
+        end_offered (λ n line source wave. IsRegistered n line first source wave) (Some lag) first
+        (reader_of (source_of hub (frame_behind timing p from) first true)
+        (use_into timing from p block own (Some lag)))
+        (record { period = p; latency = timing.latency block + lag }) lag_is
         (frame_same (max p own) (latency_after timing p from + shift_into timing from p block (Some lag)) p (timing.latency block + lag) wide late) (λ n wave line is. is) answer.shows

@@ -44,7 +44,8 @@ use Rattle.hw_build.proofs.Tally.{at_last}
 use Rattle.fx_type.proofs.Ranges.{type-word}
 
 -- the first place at which a test fails
-pub first_not_is : {A : Type 0} (test : A → Bool) (xs : List A) (k : ℕ) (x : A) → slice_get xs k ≡ Some x → test x ≡ false → ((j : ℕ) (y : A) → j < k → slice_get xs j ≡ Some y → test y ≡ true) → first_not test xs ≡ k
+pub first_not_is : {A : Type 0} (test : A → Bool) (xs : List A) (k : ℕ) (x : A) → slice_get xs k ≡ Some x
+    → test x ≡ false → ((j : ℕ) (y : A) → j < k → slice_get xs j ≡ Some y → test y ≡ true) → first_not test xs ≡ k
 first_not_is test [] k x at fails before = absurd (none-some x at)
 first_not_is test (y ∷ xs) zero x at fails before = let e : test y ≡ false = ap test (same_Some y x at) ∙ fails in rw e refl
 first_not_is test (y ∷ xs) (suc k) x at fails before =
@@ -54,7 +55,8 @@ first_not_is test (y ∷ xs) (suc k) x at fails before =
 
 -- ---- places so far
 
-module _ (diagram : Diagram) (firsts : List (List ℕ)) (spots : Spots) (entry state stage : ℕ) (even : AreEven spots) (places : Places) (spotted : AreSpotted diagram firsts (with_spot spots entry state stage) places) where
+module _ (diagram : Diagram) (firsts : List (List ℕ)) (spots : Spots) (entry state stage : ℕ) (even : AreEven spots)
+    (places : Places) (spotted : AreSpotted diagram firsts (with_spot spots entry state stage) places) where
   -- of more elements are those of fewer
   pub spotted_before : AreSpotted diagram firsts spots places
   spotted_before = record {
@@ -72,7 +74,9 @@ module _ (diagram : Diagram) (firsts : List (List ℕ)) (spots : Spots) (entry s
 
   module _ (block : ℕ) (b : Block) (port element : ℕ) (shown : IsShown diagram (attributes_of diagram) block b port element) (here : hub_at firsts block port element ≡ length spots.entries) where
     pub last_entry : places.entry block port element ≡ entry
-    last_entry = let sum = length-append spots.entries (entry ∷ []) in spotted.entry block b port element shown (omega (arith, sum, here)) ∙ at_last spots.entries entry (hub_at firsts block port element) here
+    last_entry = let sum = length-append spots.entries (entry ∷ []) in
+        spotted.entry block b port element shown (omega (arith, sum, here))
+        ∙ at_last spots.entries entry (hub_at firsts block port element) here
 
     pub last_stage : (k : ℕ) → places.stage block port element k ≡ stage + k
     last_stage k =
@@ -84,7 +88,9 @@ module _ (diagram : Diagram) (firsts : List (List ℕ)) (spots : Spots) (entry s
     last_state asks k =
         let sum = length-append spots.states (state ∷ []) in
         let same = even.states in
-        spotted.state block b port element k shown asks (omega (arith, sum, here, same)) ∙ ap (λ (n : ℕ). n + k) (at_last spots.states state (hub_at firsts block port element) (omega (arith, here, same)))
+        spotted.state block b port element k shown asks (omega (arith, sum, here, same))
+        ∙ ap (λ (n : ℕ). n + k)
+        (at_last spots.states state (hub_at firsts block port element) (omega (arith, here, same)))
 
 pub even_next : (spots : Spots) (entry state stage : ℕ) → AreEven spots → AreEven (with_spot spots entry state stage)
 even_next spots entry state stage even =
@@ -156,18 +162,25 @@ single_multiplying (Gain value param) inputs outputs ports is = ports.1
 single_multiplying Product inputs outputs ports is = ports.1
 single_multiplying _ inputs outputs ports is = absurd (false≢true is)
 
-module _ (setting : Setting) (listed : InputsAreListed) (valid : TypesAreValid) (above : PeriodsAreAbove) (ordered : IsOrdered setting.design.checked.now.diagram setting.design.checked.now.order) (set : IsSet setting) where
+module _ (setting : Setting) (listed : InputsAreListed) (valid : TypesAreValid) (above : PeriodsAreAbove)
+    (ordered : IsOrdered setting.design.checked.now.diagram setting.design.checked.now.order)
+    (set : IsSet setting) where
   abbrev drawn : Diagram
   drawn = setting.design.checked.now.diagram
 
   -- the net that readers name has a number of 32 bits
-  pub hub_fits : (block : ℕ) (b : Block) (port element : ℕ) → IsShown drawn (attributes_of drawn) block b port element → is_input_role (row_of b.kind).place.role ≡ false → hub_at setting.firsts.now block port element < 2 ^ 32
+  pub hub_fits : (block : ℕ) (b : Block) (port element : ℕ)
+      → IsShown drawn (attributes_of drawn) block b port element → is_input_role (row_of b.kind).place.role ≡ false
+      → hub_at setting.firsts.now block port element < 2 ^ 32
   hub_fits block b port element shown other =
       let place = place_other drawn set.stood.earlier set.stood.later setting.firsts.now set.stood.has block b port element shown other in
       (set.stood.has.fresh block b (hub_at setting.firsts.now block port element) shown.block_is place.0 place.1).1
 
   -- before its pipeline is there the net that readers name waits
-  pub element_waits : (block : ℕ) (b : Block) (port element : ℕ) → IsShown drawn (attributes_of drawn) block b port element → (before middle : Circuit) (entry : Entry) (reaches : Reaches setting before (hub_at setting.firsts.now block port element))
+  pub element_waits : (block : ℕ) (b : Block) (port element : ℕ)
+      → IsShown drawn (attributes_of drawn) block b port element
+      → (before middle : Circuit) (entry : Entry)
+      (reaches : Reaches setting before (hub_at setting.firsts.now block port element))
       → IsEntered setting before middle block b port element entry → IsResize middle.nets (length reaches.spots.entries)
   element_waits block b port element shown before middle entry reaches entered =
       let spots : Spots = reaches.spots in
@@ -188,8 +201,14 @@ module _ (setting : Setting) (listed : InputsAreListed) (valid : TypesAreValid) 
       let waits = is.going.waits block b port element shown (omega (arith, at)) in
       record { net = hub_of ((attributes_of drawn).type_at block 1); args = []; is = ap (slice_get middle.nets) at ∙ waits.at; resizes = refl }
 
-  module _ (block : ℕ) (b : Block) (port element : ℕ) (shown : IsShown drawn (attributes_of drawn) block b port element) (other : is_input_role (row_of b.kind).place.role ≡ false) (before middle after final : Circuit) (entry : Entry)
-      (reaches : Reaches setting before (hub_at setting.firsts.now block port element)) (entered : IsEntered setting before middle block b port element entry) (put : IsClosedBy drawn (timing_for setting.design) middle after (length reaches.spots.entries) block element entry.net)
+  module _ (block : ℕ) (b : Block) (port element : ℕ)
+      (shown : IsShown drawn (attributes_of drawn) block b port element)
+      (other : is_input_role (row_of b.kind).place.role ≡ false) (before middle after final : Circuit)
+      (entry : Entry)
+      (reaches : Reaches setting before (hub_at setting.firsts.now block port element))
+      (entered : IsEntered setting before middle block b port element entry)
+      (put : IsClosedBy drawn (timing_for setting.design) middle after
+      (length reaches.spots.entries) block element entry.net)
       (names : final ≡ with_labels after (product_labels block element entry.multiply)) (small_block : block < 2 ^ 64) (small_element : element < 2 ^ 64) where
     abbrev spots : Spots
     spots = reaches.spots
@@ -214,7 +233,9 @@ module _ (setting : Setting) (listed : InputsAreListed) (valid : TypesAreValid) 
 
     next_tally : AreTallied drawn setting.design.plan.now (timing_for setting.design) setting.firsts.now reaches.going.start final (with_spot spots entry.net entry.state put.piped.begin)
     next_tally =
-        tallied_next setting listed valid above ordered set block b port element shown other before middle put.middle after reaches.going.start spots entry put.piped reaches.going.even here reaches.going.begun reaches.going.tally entered
+        tallied_next setting listed valid above ordered set block b port element shown other before middle
+        put.middle after reaches.going.start spots entry put.piped reaches.going.even here reaches.going.begun
+        reaches.going.tally entered
         (type-word ((attributes_of drawn).type_at block 1) (valid drawn setting.design.checked.now.order block b ordered shown.block_is).0) inside put.put
         (resize_kept drawn (timing_for setting.design) middle put.middle block element entry.net (length spots.entries) put.piped (λ p is. above drawn block p ordered.checked is) put.put
         (element_waits block b port element shown before middle entry reaches entered))
@@ -227,9 +248,16 @@ module _ (setting : Setting) (listed : InputsAreListed) (valid : TypesAreValid) 
         let within = slice_get_within drawn.blocks block b shown.block_is in
         let few = ordered.checked.wired.size in
         let ports = (readable_at drawn ordered.checked.wired block b shown.block_is).ports in
-        marked_next drawn setting.design.plan.now (times_for setting.design) setting.firsts.now reaches.going.start before middle put.middle after final (length spots.entries) block element entry.net put.piped.end put.piped entry.multiply reaches.going.marks entered.appends.extends entered.own_frames
+        marked_next drawn setting.design.plan.now
+        (times_for setting.design) setting.firsts.now reaches.going.start before middle put.middle after final
+        (length spots.entries) block element entry.net put.piped.end put.piped entry.multiply
+        reaches.going.marks entered.appends.extends entered.own_frames
         (λ m e. let own = entered.own_number m e in (own.1, own.2, first_hub (single_multiplying b.kind b.inputs b.outputs ports own.0))) put.put put.connected names (omega (arith, more, low)) within
-        (λ some stage. first_hub (pipelining_shows b.kind b.inputs b.outputs (set.designed.scheduled.planned.allowed.each block b shown.block_is some).kind ports)) (λ some. some_period ((attributes_of drawn).period_at block) (set.designed.scheduled.planned.allowed.each block b shown.block_is some).period) (omega (arith, within, few)) element_fits
+        (λ some stage. first_hub (pipelining_shows b.kind b.inputs b.outputs
+        (set.designed.scheduled.planned.allowed.each block b shown.block_is some).kind ports))
+        (λ some. some_period ((attributes_of drawn).period_at block)
+        (set.designed.scheduled.planned.allowed.each block b shown.block_is some).period)
+        (omega (arith, within, few)) element_fits
         (few_stages block within)
       where
         first_hub : shown_ports b.kind b.outputs ≡ 1 → hub_at setting.firsts.now block 1 element ≡ length spots.entries
@@ -256,7 +284,10 @@ module _ (setting : Setting) (listed : InputsAreListed) (valid : TypesAreValid) 
         some_period (Some p) is = (p, refl)
         some_period None is = absurd (false≢true is)
 
-    next_each : (places : Places) → Fits setting places → AreSpotted drawn setting.firsts.now (with_spot spots entry.net entry.state put.piped.begin) places → (level : ℕ → ℕ) × IsGoingBy setting places reaches.going.start (suc (length spots.entries)) final level
+    next_each : (places : Places) → Fits setting places
+        → AreSpotted drawn setting.firsts.now (with_spot spots entry.net entry.state put.piped.begin) places
+        → (level : ℕ → ℕ)
+        × IsGoingBy setting places reaches.going.start (suc (length spots.entries)) final level
     next_each places fits spotted =
         let even = reaches.going.even in
         let going = reaches.going.each places fits (spotted_before drawn setting.firsts.now spots entry.net entry.state put.piped.begin even places spotted) in
@@ -268,15 +299,25 @@ module _ (setting : Setting) (listed : InputsAreListed) (valid : TypesAreValid) 
         } in
         let is = entered.each places reaches.going.start (length spots.entries) going.0 fits at (reaches.going.begun.each places fits).products going.1 in
         let closes =
-        going_closed drawn (timing_for setting.design) places (place_in setting.design.checked.now.order) (length (root_inputs drawn (attributes_of drawn))) reaches.going.start (length spots.entries) (hubs_in_all drawn) middle put.middle after is.next block b port element entry.net put.piped is.going shown
-        (fits.lines.after block b port element shown ∙ here) high (type-word ((attributes_of drawn).type_at block 1) (valid drawn setting.design.checked.now.order block b ordered shown.block_is).0) entered.word is.low is.made entry_is
+        going_closed drawn (timing_for setting.design) places (place_in setting.design.checked.now.order)
+        (length (root_inputs drawn (attributes_of drawn))) reaches.going.start (length spots.entries)
+        (hubs_in_all drawn) middle put.middle after is.next block b port element entry.net put.piped
+        is.going shown
+        (fits.lines.after block b port element shown ∙ here) high
+        (type-word ((attributes_of drawn).type_at block 1)
+        (valid drawn setting.design.checked.now.order block b ordered shown.block_is).0) entered.word is.low
+        is.made entry_is
         (last_stage drawn setting.firsts.now spots entry.net entry.state put.piped.begin even places spotted block b port element shown here)
         (λ also q outer member shows same.
-        one_hub drawn setting.design.checked.now.order set.stood.earlier set.stood.later setting.firsts.now set.stood.has listed valid ordered block b port element also q outer member shown shows other (sym (fits.lines.after also q outer member shows) ∙ same ∙ sym here))
+        one_hub drawn setting.design.checked.now.order set.stood.earlier set.stood.later setting.firsts.now
+        set.stood.has listed valid ordered block b port element also q outer member shown shows other
+        (sym (fits.lines.after also q outer member shows) ∙ same ∙ sym here))
         put.connected (λ p period. above drawn block p ordered.checked period) put.put
         in (
           closes.0,
-          going_same drawn (timing_for setting.design) places (place_in setting.design.checked.now.order) (hubs_in_all drawn) (length (root_inputs drawn (attributes_of drawn))) reaches.going.start (suc (length spots.entries)) after final closes.0
+          going_same drawn (timing_for setting.design) places (place_in setting.design.checked.now.order)
+              (hubs_in_all drawn) (length (root_inputs drawn (attributes_of drawn))) reaches.going.start
+              (suc (length spots.entries)) after final closes.0
               (ap (λ (c : Circuit). c.nets) names) (ap (λ (c : Circuit). c.cycles) names) (ap (λ (c : Circuit). c.inputs) names) closes.1,
         )
 

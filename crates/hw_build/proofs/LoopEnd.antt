@@ -80,7 +80,9 @@ module _ (setting : Setting) (set : IsSet setting) (now : Circuit) (spots : Spot
           let past = is.past in
           let turn = subst (λ (all : List Net). AreReadInTurn all (begin block b element shown any) (begin block b element shown any + stages_at setting.design.plan.now block)) (sym nets) is.turn in
           record {
-            net = stage_net type (own_frame (timing_for setting.design) (period block b element shown any).0 block) ((period block b element shown any).0 * setting.design.plan.now.cycles - 1) (begin block b element shown any + stage);
+            net = stage_net type (own_frame (timing_for setting.design) (period block b element shown any).0 block)
+                ((period block b element shown any).0 * setting.design.plan.now.cycles - 1)
+                (begin block b element shown any + stage);
             frame = own_frame (timing_for setting.design) (period block b element shown any).0 block;
             slot = (period block b element shown any).0 * setting.design.plan.now.cycles - 1;
             first = pos 0;
@@ -88,7 +90,10 @@ module _ (setting : Setting) (set : IsSet setting) (now : Circuit) (spots : Spot
             takes = refl;
             named = labels (record { net = begin block b element shown any + suc stage; name = stage_name block element (suc stage) }) (is.named stage below);
             alone = λ k read other at contained same.
-                let e = alone later.nets (begin block b element shown any) (begin block b element shown any + stages_at setting.design.plan.now block) (begin block b element shown any + stage) turn (omega arith) (omega (arith, below)) k read other at contained same in
+                let e = alone later.nets (begin block b element shown any)
+                (begin block b element shown any + stages_at setting.design.plan.now block)
+                (begin block b element shown any + stage) turn (omega arith)
+                (omega (arith, below)) k read other at contained same in
                 omega (arith, e);
             inner = λ port contained e.
                 let low = outputs port contained in
@@ -108,7 +113,10 @@ module _ (setting : Setting) (set : IsSet setting) (now : Circuit) (spots : Spot
           let any : 0 < stages_at setting.design.plan.now block = omega (arith, below) in
           let is = line block b element shown any in
           record {
-            net = stage_net ((attributes_of drawn).type_at block 1) (own_frame (timing_for setting.design) (period block b element shown any).0 block) ((period block b element shown any).0 * setting.design.plan.now.cycles - 1) (begin block b element shown any + stage);
+            net = stage_net ((attributes_of drawn).type_at block 1)
+                (own_frame (timing_for setting.design) (period block b element shown any).0 block)
+                ((period block b element shown any).0 * setting.design.plan.now.cycles - 1)
+                (begin block b element shown any + stage);
             is = ap (λ (all : List Net). slice_get all (begin block b element shown any + suc stage)) nets ∙ is.stage stage below;
             wide = refl;
             sign = refl;
@@ -126,7 +134,14 @@ module _ (setting : Setting) (set : IsSet setting) (now : Circuit) (spots : Spot
           let kind : (row_of b.kind).hardware.multiplies ≡ true = sym (ap multiplies_if some.1) ∙ is_multiplying in
           let ports = multiplying_shows b.kind b.inputs b.outputs kind (readable_at drawn ordered.checked.wired block b some.1).ports in
           let wide = multiplying_width drawn (attributes_of drawn) b.kind block 1 kind in
-          let shown : IsShown drawn (attributes_of drawn) block b 1 element = record { block_is = some.1; port_from = omega arith; port_to = omega (arith, ports); element_below = omega (arith, below, wide) } in
+          let shown : IsShown drawn (attributes_of drawn) block b 1 element =
+          record {
+            block_is = some.1;
+            port_from =
+                omega arith;
+            port_to = omega (arith, ports);
+            element_below = omega (arith, below, wide);
+          } in
           let at = has.way.hubs_are.below block b 1 element shown in
           let size = has.size in
           let owns : products_by drawn setting.design.plan.now block ≡ 1 =

@@ -8,7 +8,9 @@ pub name_labelled : (block element stage : ℕ) → block < 2 ^ 64 → element <
 name_labelled block element zero low mid high = multiplication_labelled block element low mid
 name_labelled block element (suc stage) low mid high = stage_labelled block element (suc stage) low mid high
 
-pub name_injective : (block element stage other member step : ℕ) → block < 2 ^ 64 → element < 2 ^ 64 → stage < 2 ^ 64 → other < 2 ^ 64 → member < 2 ^ 64 → step < 2 ^ 64 → name_by block element stage ≡ name_by other member step
+pub name_injective : (block element stage other member step : ℕ) → block < 2 ^ 64 → element < 2 ^ 64
+    → stage < 2 ^ 64 → other < 2 ^ 64 → member < 2 ^ 64 → step < 2 ^ 64
+    → name_by block element stage ≡ name_by other member step
     → (block ≡ other) × (element ≡ member) × (stage ≡ step)
 name_injective block element zero other member zero b e s o m t same = let h = multiplication_injective block element other member b e o m same in (h.0, h.1, refl)
 name_injective block element zero other member (suc step) b e s o m t same = absurd (labels_apart _ _ same)

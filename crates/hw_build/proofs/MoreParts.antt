@@ -16,7 +16,8 @@ use Rattle.hw_net.proofs.Growth.{one-longer, stood-there, appends-trans}
 use Rattle.hw_share.specs.inner.Parts.{Grows, IsNamed}
 use Rattle.hw_share.proofs.OneNet.{put-grows, put-there}
 
-pub grows_then : (a b c : Circuit) (named more : List ℕ) (part other : NetKind → Type 0) (m n : ℕ) → ((read : ℕ) → Contains more read → IsNamed a b named read) → ((kind : NetKind) → other kind → part kind)
+pub grows_then : (a b c : Circuit) (named more : List ℕ) (part other : NetKind → Type 0) (m n : ℕ)
+    → ((read : ℕ) → Contains more read → IsNamed a b named read) → ((kind : NetKind) → other kind → part kind)
     → Grows a b named part m → Grows b c more other n → Grows a c named part (m + n)
 grows_then a b c named more part other m n names wider p q = record {
   appends = appends-trans a b c named more names p.appends q.appends;
@@ -34,7 +35,8 @@ module _ (a b : Circuit) (one : Net) (grown : b ≡ with_net a one) where
   put_word = record { net = one; is = put-there a b one grown; wide = refl; sign = refl }
 
 -- an operation
-pub comb_grows : (a b : Circuit) (op : NetOp) (args : List ℕ) (signed : Bool) (width : ℕ) (part : NetKind → Type 0) → b ≡ with_net a (record { signed = signed; width = width; kind = Comb op args }) → IsWord width signed
+pub comb_grows : (a b : Circuit) (op : NetOp) (args : List ℕ) (signed : Bool) (width : ℕ) (part : NetKind → Type 0)
+    → b ≡ with_net a (record { signed = signed; width = width; kind = Comb op args }) → IsWord width signed
     → IsKind b.nets b.cycles (length b.inputs) width signed (Comb op args) → ((read : ℕ) → Contains args read → read < length a.nets) → part (Comb op args) → Grows a b args part 0
 comb_grows a b op args signed width part grown word kind there own =
     let one : Net = record { signed = signed; width = width; kind = Comb op args } in

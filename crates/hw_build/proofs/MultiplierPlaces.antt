@@ -30,7 +30,9 @@ module _ {A B : Type 0} (f : A → List B) where
   no_first (x ∷ xs) = refl
 
   -- one each from a place on
-  pub one_each : (xs : List A) (first j : ℕ) → first + j ≤ length xs → ((i : ℕ) (x : A) → i < first → slice_get xs i ≡ Some x → f x ≡ []) → ((i : ℕ) (x : A) → first ≤ i → i < first + j → slice_get xs i ≡ Some x → (y : B) × (f x ≡ y ∷ []))
+  pub one_each : (xs : List A) (first j : ℕ) → first + j ≤ length xs
+      → ((i : ℕ) (x : A) → i < first → slice_get xs i ≡ Some x → f x ≡ [])
+      → ((i : ℕ) (x : A) → first ≤ i → i < first + j → slice_get xs i ≡ Some x → (y : B) × (f x ≡ y ∷ []))
       → length (flat_map f (take (first + j) xs)) ≡ j
   one_each xs zero zero room none one = let e : 0 + 0 ≡ 0 = omega arith in ap (λ (n : ℕ). length (flat_map f (take n xs))) e ∙ no_first xs
   one_each [] zero (suc j) room none one = absurd (omega (arith, room))
@@ -41,7 +43,9 @@ module _ {A B : Type 0} (f : A → List B) where
       ap (λ (n : ℕ). length (flat_map f (take n (x ∷ xs)))) e ∙ ap (λ (ys : List B). length (ys ++ flat_map f (take (0 + j) xs))) here.1 ∙ ap suc rest
   one_each [] (suc first) j room none one = absurd (omega (arith, room))
   one_each (x ∷ xs) (suc first) j room none one =
-      let rest = one_each xs first j (omega (arith, room)) (λ i y below at. none (suc i) y (omega (arith, below)) at) (λ i y low high at. one (suc i) y (omega (arith, low)) (omega (arith, high)) at) in
+      let rest = one_each xs first j (omega (arith, room))
+      (λ i y below at. none (suc i) y (omega (arith, below)) at)
+      (λ i y low high at. one (suc i) y (omega (arith, low)) (omega (arith, high)) at) in
       let e : suc first + j ≡ suc (first + j) = omega arith in
       ap (λ (n : ℕ). length (flat_map f (take n (x ∷ xs)))) e ∙ ap (λ (ys : List B). length (ys ++ flat_map f (take (first + j) xs))) (none 0 x (omega arith) refl) ∙ rest
 
@@ -54,7 +58,8 @@ pub record AreUnitsFrom (nets : List Net) (first count : ℕ) : Type 0 where
   pub there : (k : ℕ) (net : Net) → first ≤ k → k < first + count → slice_get nets k ≡ Some net → (factors : Factors) × (unit_factors net.kind ≡ factors ∷ [])
 
 -- each has the number that its place among them is
-pub multiplier_at : (nets : List Net) (first count unit left right : ℕ) (net : Net) → AreUnitsFrom nets first count → unit < count → slice_get nets (first + unit) ≡ Some net → net.kind ≡ Unit left right
+pub multiplier_at : (nets : List Net) (first count unit left right : ℕ) (net : Net) → AreUnitsFrom nets first count
+    → unit < count → slice_get nets (first + unit) ≡ Some net → net.kind ≡ Unit left right
     → slice_get (flat_map (λ (n : Net). unit_factors n.kind) nets) unit ≡ Some (record { left = left; right = right })
 multiplier_at nets first count unit left right net are below at kind =
     let room = are.room in
@@ -64,7 +69,9 @@ multiplier_at nets first count unit left right net are below at kind =
     ∙ listed_at (λ (n : Net). unit_factors n.kind) nets (first + unit) net (record { left = left; right = right }) at (ap unit_factors kind)
 
 -- none have any from a place on
-none_past : (xs : List Net) (k : ℕ) → ((j : ℕ) (x : Net) → k ≤ j → slice_get xs j ≡ Some x → unit_factors x.kind ≡ []) → length (flat_map (λ (n : Net). unit_factors n.kind) xs) ≡ length (flat_map (λ (n : Net). unit_factors n.kind) (take k xs))
+none_past : (xs : List Net) (k : ℕ) → ((j : ℕ) (x : Net) → k ≤ j → slice_get xs j ≡ Some x
+    → unit_factors x.kind ≡ []) → length (flat_map (λ (n : Net). unit_factors n.kind) xs)
+    ≡ length (flat_map (λ (n : Net). unit_factors n.kind) (take k xs))
 none_past [] zero none = refl
 none_past [] (suc k) none = refl
 none_past (x ∷ xs) zero none =
@@ -76,5 +83,7 @@ none_past (x ∷ xs) (suc k) none =
     ∙ sym (length-append (unit_factors x.kind) (flat_map (λ (n : Net). unit_factors n.kind) (take k xs)))
 
 -- so a netlist has as many multipliers as Unit nets
-pub counted_units : (nets : List Net) (first count : ℕ) → AreUnitsFrom nets first count → ((k : ℕ) (net : Net) → first + count ≤ k → slice_get nets k ≡ Some net → unit_factors net.kind ≡ []) → length (flat_map (λ (n : Net). unit_factors n.kind) nets) ≡ count
+pub counted_units : (nets : List Net) (first count : ℕ) → AreUnitsFrom nets first count
+    → ((k : ℕ) (net : Net) → first + count ≤ k → slice_get nets k ≡ Some net → unit_factors net.kind ≡ [])
+    → length (flat_map (λ (n : Net). unit_factors n.kind) nets) ≡ count
 counted_units nets first count are none = none_past nets (first + count) none ∙ one_each (λ (n : Net). unit_factors n.kind) nets first count are.room are.before are.there

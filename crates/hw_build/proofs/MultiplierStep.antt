@@ -73,10 +73,14 @@ module _ {B : Type 0} (f : NetKind → List B) where
   none_listed (x ∷ xs) ys none = ap (λ (bs : List B). f x.kind ++ bs) (none_listed xs ys none)
 
   -- nets that have none leave the list as it is
-  pub same_listed : (a b : Circuit) → Extends a b → ((k : ℕ) (net : Net) → length a.nets ≤ k → slice_get b.nets k ≡ Some net → f net.kind ≡ []) → flat_map (λ (net : Net). f net.kind) b.nets ≡ flat_map (λ (net : Net). f net.kind) a.nets
+  pub same_listed : (a b : Circuit) → Extends a b
+      → ((k : ℕ) (net : Net) → length a.nets ≤ k → slice_get b.nets k ≡ Some net → f net.kind ≡ [])
+      → flat_map (λ (net : Net). f net.kind) b.nets ≡ flat_map (λ (net : Net). f net.kind) a.nets
   same_listed a b grown none =
       ap (flat_map (λ (net : Net). f net.kind)) grown.nets
-      ∙ none_listed a.nets grown.added (λ k net at. none (length a.nets + k) net (omega arith) (ap (λ (xs : List Net). slice_get xs (length a.nets + k)) grown.nets ∙ get_right a.nets grown.added k ∙ at))
+      ∙ none_listed a.nets grown.added (λ k net at. none (length a.nets + k) net (omega arith)
+      (ap (λ (xs : List Net). slice_get xs (length a.nets + k)) grown.nets ∙ get_right a.nets grown.added k
+      ∙ at))
 
 -- ---- what was put in
 
@@ -110,14 +114,17 @@ module _ (before mid after : Circuit) (operations : List Asked) (results : List 
   ]
 
 -- a net that was put in and reads nothing in its clock stands below all
-pub quiet_low : (before after : Circuit) (level : ℕ → ℕ) (own number : ℕ) (net : Net) → slice_get after.nets number ≡ Some net → length before.nets ≤ number → reads_now net.kind ≡ [] → level_behind before after level own number ≡ 0
+pub quiet_low : (before after : Circuit) (level : ℕ → ℕ) (own number : ℕ) (net : Net)
+    → slice_get after.nets number ≡ Some net → length before.nets ≤ number → reads_now net.kind ≡ []
+    → level_behind before after level own number ≡ 0
 quiet_low before after level own number net at new quiet =
     cond-false {A = ℕ} (nat_lt number (length before.nets)) (level number) (level_of own (reads_now (net_at after.nets number).kind)) (le-ltb number (length before.nets) new)
     ∙ ap (λ (n : Net). level_of own (reads_now n.kind)) (get_or_from_slice_get after.nets number net _ at)
     ∙ ap (level_of own) quiet
 
 -- what is named of operations is an operand
-pub operand_of : (operations : List Asked) (place read : ℕ) → slice_get (operands_of operations) place ≡ Some read → (k : ℕ) × (one : Asked) × (slice_get operations k ≡ Some one) × ((read ≡ one.left) ⊎ (read ≡ one.right))
+pub operand_of : (operations : List Asked) (place read : ℕ) → slice_get (operands_of operations) place ≡ Some read
+    → (k : ℕ) × (one : Asked) × (slice_get operations k ≡ Some one) × ((read ≡ one.left) ⊎ (read ≡ one.right))
 operand_of [] place read at = absurd (none-some read at)
 operand_of (one ∷ operations) zero read at = (0, one, refl, inl (sym (same_Some one.left read at)))
 operand_of (one ∷ operations) (suc zero) read at = (0, one, refl, inr (sym (same_Some one.right read at)))

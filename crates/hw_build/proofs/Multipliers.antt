@@ -80,7 +80,9 @@ product_inputs Product inputs outputs has e = let two = has.0 in omega (arith, t
 product_inputs _ inputs outputs has e = absurd (false≢true e)
 
 -- one with a list is scaled by it
-pub scaled_by : (kind : Kind) (list : List Decimal) → (row_of kind).hardware.multiplies ≡ true → (row_of kind).signal.lists ≡ list ∷ [] → (param : TypeSpec) × ((row_of kind).types.full ≡ FullRule.FullScaled list param)
+pub scaled_by : (kind : Kind) (list : List Decimal) → (row_of kind).hardware.multiplies ≡ true
+    → (row_of kind).signal.lists ≡ list ∷ []
+    → (param : TypeSpec) × ((row_of kind).types.full ≡ FullRule.FullScaled list param)
 scaled_by (Gain value param) list e has = (param, ap (λ (own : List Decimal). FullRule.FullScaled own param) (ap (λ (lists : List (List Decimal)). slice_index_or lists 0 []) has))
 scaled_by Product list e has = let none = ap (λ (lists : List (List Decimal)). length lists) has in absurd (omega (arith, none))
 scaled_by _ list e has = absurd (false≢true e)
@@ -116,13 +118,19 @@ pub slot_is_told : (diagram : Diagram) (plan : Resolved) (times : Times) (number
 slot_is_told diagram plan times number o at = go (number_at diagram plan o.block o.element) refl
   where
     go : (found : Option ℕ) → number_at diagram plan o.block o.element ≡ found → slot_by diagram plan times o.block o.element found ≡ Some (slot_of diagram (attributes_of diagram) plan times number o)
-    go None e = absurd (position_found (is_element o.block o.element) (shared_operations diagram (attributes_of diagram) plan) number o at (and_from (eqb o.block o.block) (eqb o.element o.element) (eq-eqb o.block o.block refl) (eq-eqb o.element o.element refl)) e)
+    go None e = absurd (position_found (is_element o.block o.element)
+        (shared_operations diagram (attributes_of diagram) plan) number o at
+        (and_from (eqb o.block o.block) (eqb o.element o.element) (eq-eqb o.block o.block refl)
+        (eq-eqb o.element o.element refl)) e)
     go (Some other) e =
         let found = slot_found diagram plan times o.block o.element (slot_of diagram (attributes_of diagram) plan times other o) (Some other) e refl in
         ap Some (sym found.slot_is ∙ ap (λ (n : ℕ). slot_of diagram (attributes_of diagram) plan times n o) (stands_once diagram (attributes_of diagram) plan found.number number o found.is at))
 
 module _ (operands : OperandsAreServed) (widths : WidthsAreOfEdges) where
-  module _ (diagram : Diagram) (order : List ℕ) (plan : Resolved) (times : Times) (places : Places) (netlist : Circuit) (number : ℕ) (o : Operation) (b : Block) (at : IsOperation diagram (attributes_of diagram) plan number o) (there : slice_get diagram.blocks o.block ≡ Some b)
+  module _ (diagram : Diagram) (order : List ℕ) (plan : Resolved) (times : Times) (places : Places)
+      (netlist : Circuit) (number : ℕ) (o : Operation) (b : Block)
+      (at : IsOperation diagram (attributes_of diagram) plan number o)
+      (there : slice_get diagram.blocks o.block ≡ Some b)
       (fits : (period : ℕ) → (attributes_of diagram).period_at o.block ≡ Some period → slot_of diagram (attributes_of diagram) plan times number o < period * plan.cycles)
     where
       is_multiplying : (row_of b.kind).hardware.multiplies ≡ true
@@ -143,13 +151,19 @@ module _ (operands : OperandsAreServed) (widths : WidthsAreOfEdges) where
           let shown = multiplies_shown b.kind b.inputs b.outputs ports is_multiplying in
           let fit = fits period is in
           let whole : (t + latency_at times.lat o.block + period) * plan.cycles ≡ (t + latency_at times.lat o.block) * plan.cycles + period * plan.cycles = omega arith in
-          (operands diagram order stimulus (timing_by diagram plan times) clocks n table (waves_of places rows) design o.block b input o.element (slot_of diagram (attributes_of diagram) plan times number o) there shown now
+          (operands diagram order stimulus (timing_by diagram plan times) clocks n table
+          (waves_of places rows) design o.block b input o.element
+          (slot_of diagram (attributes_of diagram) plan times number o) there shown now
           (slot_is_told diagram plan times number o at) from to below).at t (clock_of diagram plan times number o t) less early
-          (subst (λ (p : Option ℕ). IsSeen plan.cycles p (latency_at times.lat o.block) (slot_of diagram (attributes_of diagram) plan times number o) t (clock_of diagram plan times number o t)) (sym is)
+          (subst (λ (p : Option ℕ). IsSeen plan.cycles p (latency_at times.lat o.block)
+          (slot_of diagram (attributes_of diagram) plan times number o) t
+          (clock_of diagram plan times number o t)) (sym is)
           (record { is_hit = hit; from = omega arith; until = omega (arith, whole, fit) }))
 
       -- the clock by the number of its frame
-      clock_is : (t period : ℕ) → t % period ≡ 0 → frame_start (span_at (timing_by diagram plan times) period o.block) (t / period) + slot_of diagram (attributes_of diagram) plan times number o ≡ clock_of diagram plan times number o t
+      clock_is : (t period : ℕ) → t % period ≡ 0
+          → frame_start (span_at (timing_by diagram plan times) period o.block) (t / period)
+          + slot_of diagram (attributes_of diagram) plan times number o ≡ clock_of diagram plan times number o t
       clock_is t period hit =
           let a : t ≡ t / period * period = omega (arith, div-add-mod' t period, hit) in
           let x : t * plan.cycles ≡ t / period * (period * plan.cycles) = ap (λ (n : ℕ). n * plan.cycles) a ∙ omega arith in
@@ -157,16 +171,22 @@ module _ (operands : OperandsAreServed) (widths : WidthsAreOfEdges) where
 
       second_is : (stimulus : Stimulus) (n clocks : ℕ) (table : Table) (rows : Rows) → IsDesign diagram order stimulus (timing_by diagram plan times) clocks n table (waves_of places rows)
           → (t period : ℕ) → (attributes_of diagram).period_at o.block ≡ Some period → t % period ≡ 0 → t < n → clock_of diagram plan times number o t < clocks
-          → (rule : FullRule) → (is_product rule ≡ true → 2 ≤ b.inputs) → (v : ℤ) → IsSecondOf diagram places rows o.block o.element (clock_of diagram plan times number o t) rule v → IsSecond diagram table o.block o.element t rule v
+          → (rule : FullRule) → (is_product rule ≡ true → 2 ≤ b.inputs) → (v : ℤ)
+          → IsSecondOf diagram places rows o.block o.element (clock_of diagram plan times number o t) rule v
+          → IsSecond diagram table o.block o.element t rule v
       second_is stimulus n clocks table rows design t period is hit less early FullRule.NoFull two v of = of
       second_is stimulus n clocks table rows design t period is hit less early (FullRule.FullSum negative accum) two v of = of
       second_is stimulus n clocks table rows design t period is hit less early (FullRule.FullScaled value param) two v of = of
-      second_is stimulus n clocks table rows design t period is hit less early FullRule.FullProduct two v of = of ∙ operand_at stimulus n clocks table rows design t period 2 is hit less early (omega arith) (two refl)
+      second_is stimulus n clocks table rows design t period is hit less early FullRule.FullProduct two v of =
+          of ∙ operand_at stimulus n clocks table rows design t period 2 is hit less early (omega arith) (two refl)
       second_is stimulus n clocks table rows design t period is hit less early FullRule.UnionOfTwo two v of = of
       second_is stimulus n clocks table rows design t period is hit less early FullRule.UnionOfEnds two v of = of
 
       -- an operation is served
-      pub served_in : (hubs : ℕ) → ((stimulus : Stimulus) (n clocks : ℕ) (inputs : Inputs) (rows : Rows) (table : Table) → IsRunOf diagram netlist stimulus n clocks inputs rows table → IsDesign diagram order stimulus (timing_by diagram plan times) clocks n table (waves_of places rows))
+      pub served_in : (hubs : ℕ) → ((stimulus : Stimulus) (n clocks : ℕ) (inputs : Inputs) (rows : Rows)
+          (table : Table) → IsRunOf diagram netlist stimulus n clocks inputs rows table
+          → IsDesign diagram order stimulus (timing_by diagram plan times) clocks n table
+          (waves_of places rows))
           → IsUnitFor diagram plan times places hubs hubs netlist number o b → IsServedIn diagram plan times netlist number o b
       served_in hubs designs unit = record {
         factors = unit.factors;
@@ -176,9 +196,14 @@ module _ (operands : OperandsAreServed) (widths : WidthsAreOfEdges) where
             let ports : HasPorts b.kind b.inputs b.outputs = (held IsReadable diagram.blocks o.block b design.ordered.checked.wired.blocks there).ports in
             let same = clock_is t period hit in
             let held_at = (unit.has period is).holds netlist (goes_same hubs hubs netlist) clocks inputs rows run.rows_are (t / period) (omega (arith, same, early)) in
-            let factors : HasFactors diagram places rows o b (clock_of diagram plan times number o t) unit.factors.left unit.factors.right = subst (λ (c : ℕ). HasFactors diagram places rows o b c unit.factors.left unit.factors.right) same held_at in
+            let factors : HasFactors diagram places rows o b
+            (clock_of diagram plan times number o t) unit.factors.left unit.factors.right =
+            subst (λ (c : ℕ). HasFactors diagram places rows o b c unit.factors.left unit.factors.right)
+            same held_at in
             record {
               first = factors.first ∙ operand_at stimulus n clocks table rows design t period 1 is hit less early (omega arith) (multiplies_input b.kind b.inputs b.outputs ports is_multiplying);
-              second = second_is stimulus n clocks table rows design t period is hit less early (row_of b.kind).types.full (product_inputs b.kind b.inputs b.outputs ports) (rows unit.factors.right (clock_of diagram plan times number o t)) factors.second;
+              second = second_is stimulus n clocks table rows design t period is hit less early
+                  (row_of b.kind).types.full (product_inputs b.kind b.inputs b.outputs ports)
+                  (rows unit.factors.right (clock_of diagram plan times number o t)) factors.second;
             };
       }

@@ -58,7 +58,9 @@ module _ (setting : Setting) (block : ℕ) (b : Block) where
 -- ---- a Demux
 
 -- a port more
-pub begins_more : (diagram : Diagram) (block : ℕ) (b : Block) (ports total : ℕ) (begins more : List ℕ) → total ≡ sum (map (shown_width diagram (attributes_of diagram) b.kind block) (numbers_from 1 ports)) → more ≡ begins ++ total ∷ []
+pub begins_more : (diagram : Diagram) (block : ℕ) (b : Block) (ports total : ℕ) (begins more : List ℕ)
+    → total ≡ sum (map (shown_width diagram (attributes_of diagram) b.kind block) (numbers_from 1 ports))
+    → more ≡ begins ++ total ∷ []
     → AreBegins diagram block b ports begins → AreBegins diagram block b (ports + 1) more
 begins_more diagram block b ports total begins more total_is more_is are =
     let long : length more ≡ length begins + 1 = ap length more_is ∙ length-append begins (total ∷ []) in
@@ -70,6 +72,8 @@ begins_more diagram block b ports total begins more total_is more_is are =
         | inr past ↦
             let last : k ≡ length begins = omega (arith, below, past, size) in
             let here : ports ≡ k = omega (arith, below, past) in
-            ap (λ (xs : List ℕ). slice_index_or xs k 0) more_is ∙ at_last begins total k last ∙ total_is ∙ ap (λ (n : ℕ). sum (map (shown_width diagram (attributes_of diagram) b.kind block) (numbers_from 1 n))) here
+            ap (λ (xs : List ℕ). slice_index_or xs k 0) more_is ∙ at_last begins total k last ∙ total_is
+            ∙ ap (λ (n : ℕ). sum (map (shown_width diagram (attributes_of diagram) b.kind block)
+            (numbers_from 1 n))) here
       ];
     }

@@ -38,7 +38,10 @@ digits_plain (digit ∷ digits) all =
 
 -- with a number behind it
 pub plain_number : (name : List ℕ) (number : ℕ) → number < 2 ^ 64 → IsPlain name → IsPlain (name ++ (codes "_" ++ decimal number))
-plain_number name number small plain = plain_append name (codes "_" ++ decimal number) plain (plain_append (codes "_") (decimal number) refl (digits_plain (decimal number) (decimal_is_IsNumeral number small).0.1))
+plain_number name number small plain =
+    plain_append name (codes "_" ++ decimal number) plain
+    (plain_append (codes "_") (decimal number) refl
+    (digits_plain (decimal number) (decimal_is_IsNumeral number small).0.1))
 
 element_by : (wide : Bool) (path : List ℕ) (element : ℕ) → element < 2 ^ 64 → IsPlain (if wide then map plain_byte path ++ (codes "_" ++ decimal element) else map plain_byte path)
 element_by true path element small = plain_number (map plain_byte path) element small (plain_map path)
@@ -84,7 +87,9 @@ plain_prefixed : (one : Bool) (name : List ℕ) → IsPlain name → IsPlain (if
 plain_prefixed true name plain = plain
 plain_prefixed false name plain = plain_append (codes "p_") name refl plain
 
-port_at : (taken : List (List ℕ)) (name plain : List ℕ) → ((own : List ℕ) → Contains own_names own → Contains taken own) → ¬ Contains taken name → IsPlain plain → name ≡ port_name plain → IsPortName name
+port_at : (taken : List (List ℕ)) (name plain : List ℕ)
+    → ((own : List ℕ) → Contains own_names own → Contains taken own) → ¬ Contains taken name → IsPlain plain
+    → name ≡ port_name plain → IsPortName name
 port_at taken name plain own free so is = subst IsPortName (sym is) (port_named plain so (λ c. free (own name (subst (Contains own_names) (sym is) c))))
 
 given_is : (taken : List (List ℕ)) (wanted name : List ℕ) → ((own : List ℕ) → Contains own_names own → Contains taken own) → IsWanted wanted → IsGiven taken wanted name → IsPortName name
@@ -96,7 +101,10 @@ given_is taken wanted name own is given = elim given.is [
 ]
 
 -- all that are given are names of ports
-pub names_are : (taken wanted names : List (List ℕ)) → ((own : List ℕ) → Contains own_names own → Contains taken own) → ((j : ℕ) (d : List ℕ) → j < length wanted → IsWanted (slice_index_or wanted j d)) → Given taken wanted names
+pub names_are : (taken wanted names : List (List ℕ))
+    → ((own : List ℕ) → Contains own_names own → Contains taken own)
+    → ((j : ℕ) (d : List ℕ) → j < length wanted → IsWanted (slice_index_or wanted j d))
+    → Given taken wanted names
     → (j : ℕ) (d : List ℕ) → j < length names → IsPortName (slice_index_or names j d)
 names_are taken [] [] own are given j d low = absurd (omega (arith, low))
 names_are taken [] (name ∷ names) own are given j d low = absurd given
@@ -160,7 +168,9 @@ digits_of_number number small = (decimal_is_IsNumeral number small).0.1
 pub stage_injective : (block element stage other member step : ℕ) → block < 2 ^ 64 → element < 2 ^ 64 → stage < 2 ^ 64 → other < 2 ^ 64 → member < 2 ^ 64 → step < 2 ^ 64
     → stage_name block element stage ≡ stage_name other member step → (block ≡ other) × (element ≡ member) × (stage ≡ step)
 stage_injective block element stage other member step b e s o m t same =
-    let outer = split_at (decimal block) (decimal other) (decimal element ++ (codes "_" ++ decimal stage)) (decimal member ++ (codes "_" ++ decimal step)) (digits_of_number block b) (digits_of_number other o) (ap (drop 4) same) in
+    let outer = split_at (decimal block) (decimal other) (decimal element ++ (codes "_" ++ decimal stage))
+    (decimal member ++ (codes "_" ++ decimal step)) (digits_of_number block b) (digits_of_number other o)
+    (ap (drop 4) same) in
     let inner = split_at (decimal element) (decimal member) (decimal stage) (decimal step) (digits_of_number element e) (digits_of_number member m) outer.1
     in (decimal_injective block other b o outer.0, decimal_injective element member e m inner.0, decimal_injective stage step s t inner.1)
 
@@ -174,7 +184,9 @@ multiplication_labelled block element low mid = record {
   begins = inl (decimal block ++ (codes "_" ++ decimal element), refl);
 }
 
-pub multiplication_injective : (block element other member : ℕ) → block < 2 ^ 64 → element < 2 ^ 64 → other < 2 ^ 64 → member < 2 ^ 64 → multiplication_name block element ≡ multiplication_name other member → (block ≡ other) × (element ≡ member)
+pub multiplication_injective : (block element other member : ℕ) → block < 2 ^ 64 → element < 2 ^ 64 → other < 2 ^ 64
+    → member < 2 ^ 64 → multiplication_name block element ≡ multiplication_name other member
+    → (block ≡ other) × (element ≡ member)
 multiplication_injective block element other member b e o m same =
     let outer = split_at (decimal block) (decimal other) (decimal element) (decimal member) (digits_of_number block b) (digits_of_number other o) (ap (drop 4) same)
     in (decimal_injective block other b o outer.0, decimal_injective element member e m outer.1)

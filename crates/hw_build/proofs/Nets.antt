@@ -31,13 +31,17 @@ module _ (closed hubs : ℕ) (now : Circuit) where
   -- ---- operations
 
   -- an operation of a settled net, in a word that has what is given
-  pub combined : (number : ℕ) (net : Net) (op : NetOp) (args : List ℕ) → IsSettled closed hubs now number net → net.kind ≡ Comb op args → (later : Circuit) → GoesOn closed hubs now later → (n : ℕ) (inputs : Inputs) (rows : Rows) → NetRows later n inputs rows
+  pub combined : (number : ℕ) (net : Net) (op : NetOp) (args : List ℕ) → IsSettled closed hubs now number net
+      → net.kind ≡ Comb op args → (later : Circuit) → GoesOn closed hubs now later
+      → (n : ℕ) (inputs : Inputs) (rows : Rows) → NetRows later n inputs rows
       → NetShows later.cycles n inputs rows net.width net.signed (Comb op args) (rows number)
   combined number net op args is kind later goes n inputs rows are =
       subst (λ (k : NetKind). NetShows later.cycles n inputs rows net.width net.signed k (rows number)) kind (are.shows number net (net_later closed hubs now later number net goes is.at is.settled))
 
   -- a Resize of a net of its own word shows what that shows
-  pub resized : (number argument width : ℕ) (signed : Bool) (net : Net) → IsSettled closed hubs now number net → net.kind ≡ Comb Resize (argument ∷ []) → net.width ≡ width → net.signed ≡ signed → IsWord width signed → HasWord now.nets argument width signed
+  pub resized : (number argument width : ℕ) (signed : Bool) (net : Net) → IsSettled closed hubs now number net
+      → net.kind ≡ Comb Resize (argument ∷ []) → net.width ≡ width → net.signed ≡ signed → IsWord width signed
+      → HasWord now.nets argument width signed
       → InLater closed hubs now (λ n rows. AreSame n (rows number) (rows argument))
   resized number argument width signed net is kind wide sign word has = record {
     holds = λ later goes n inputs rows are. record {
@@ -50,9 +54,15 @@ module _ (closed hubs : ℕ) (now : Circuit) where
   }
 
   -- a constant of its word is shown at each clock
-  pub constant : (number : ℕ) (value : ℤ) (net : Net) → IsSettled closed hubs now number net → net.kind ≡ Comb (Const value) [] → IsWord net.width net.signed → InWord net.width net.signed value → InLater closed hubs now (λ n rows. AreSame n (rows number) (steady value))
+  pub constant : (number : ℕ) (value : ℤ) (net : Net) → IsSettled closed hubs now number net
+      → net.kind ≡ Comb (Const value) [] → IsWord net.width net.signed → InWord net.width net.signed value
+      → InLater closed hubs now (λ n rows. AreSame n (rows number) (steady value))
   constant number value net is kind word has = record {
-    holds = λ later goes n inputs rows are. record { at = λ c below. wrapped-is value net.width net.signed (rows number c) word has (combined number net (Const value) [] is kind later goes n inputs rows are c below) };
+    holds = λ later goes n inputs rows are.
+        record {
+          at = λ c below. wrapped-is value net.width net.signed (rows number c) word has
+              (combined number net (Const value) [] is kind later goes n inputs rows are c below);
+        };
   }
 
   chosen_on : (b : Bool) (x y : ℤ) → b ≡ false → (if not b then x else y) ≡ x
@@ -71,7 +81,9 @@ module _ (closed hubs : ℕ) (now : Circuit) where
       go false e = e
 
   -- a choice between nets of its own word
-  pub chosen : (number enable passed other width : ℕ) (signed : Bool) (net : Net) → IsSettled closed hubs now number net → net.kind ≡ Comb Choose (enable ∷ passed ∷ other ∷ []) → net.width ≡ width → net.signed ≡ signed → IsWord width signed
+  pub chosen : (number enable passed other width : ℕ) (signed : Bool) (net : Net)
+      → IsSettled closed hubs now number net → net.kind ≡ Comb Choose (enable ∷ passed ∷ other ∷ [])
+      → net.width ≡ width → net.signed ≡ signed → IsWord width signed
       → HasWord now.nets passed width signed → HasWord now.nets other width signed → InLater closed hubs now (λ n rows. IsChosen n (rows enable) (rows passed) (rows other) (rows number))
   chosen number enable passed other width signed net is kind wide sign word has has_other = record {
     holds = λ later goes n inputs rows are.
@@ -79,24 +91,36 @@ module _ (closed hubs : ℕ) (now : Circuit) where
         (subst (λ (s : Bool). IsWrapped (if not (int_eq (rows enable c) (pos 0)) then rows passed c else rows other c) net.width s (rows number c)) sign
         (combined number net Choose (enable ∷ passed ∷ other ∷ []) is kind later goes n inputs rows are c below)) in
         record {
-          on = λ c below differs. wrapped-is (rows passed c) width signed (rows number c) word (shows_word later n inputs rows passed width signed are (word_later closed hubs now later passed width signed goes has) c below)
-              (subst (λ (v : ℤ). IsWrapped v width signed (rows number c)) (chosen_on (int_eq (rows enable c) (pos 0)) (rows passed c) (rows other c) (not_same (rows enable c) (pos 0) differs)) (wrapped c below));
-          off = λ c below same. wrapped-is (rows other c) width signed (rows number c) word (shows_word later n inputs rows other width signed are (word_later closed hubs now later other width signed goes has_other) c below)
-              (subst (λ (v : ℤ). IsWrapped v width signed (rows number c)) (chosen_off (int_eq (rows enable c) (pos 0)) (rows passed c) (rows other c) ((Decides-int_eq (rows enable c) (pos 0)).1 same)) (wrapped c below));
+          on = λ c below differs. wrapped-is (rows passed c) width signed (rows number c) word
+              (shows_word later n inputs rows passed width signed are
+              (word_later closed hubs now later passed width signed goes has) c below)
+              (subst (λ (v : ℤ). IsWrapped v width signed (rows number c))
+              (chosen_on (int_eq (rows enable c) (pos 0)) (rows passed c) (rows other c)
+              (not_same (rows enable c) (pos 0) differs)) (wrapped c below));
+          off = λ c below same. wrapped-is (rows other c) width signed (rows number c) word
+              (shows_word later n inputs rows other width signed are
+              (word_later closed hubs now later other width signed goes has_other) c below)
+              (subst (λ (v : ℤ). IsWrapped v width signed (rows number c))
+              (chosen_off (int_eq (rows enable c) (pos 0)) (rows passed c) (rows other c)
+              ((Decides-int_eq (rows enable c) (pos 0)).1 same)) (wrapped c below));
         };
   }
 
   -- ---- registers
 
   -- a register in the frame of a block
-  pub registered : (number slot from period block : ℕ) (first : ℤ) (timing : Timing) (net : Net) → IsSettled closed hubs now number net → now.cycles ≡ timing.cycles → net.kind ≡ Reg (record { period = period; latency = timing.latency block }) slot first from
+  pub registered : (number slot from period block : ℕ) (first : ℤ) (timing : Timing) (net : Net)
+      → IsSettled closed hubs now number net → now.cycles ≡ timing.cycles
+      → net.kind ≡ Reg (record { period = period; latency = timing.latency block }) slot first from
       → InLater closed hubs now (λ n rows. IsReg n (span_at timing period block) slot first (rows from) (rows number))
   registered number slot from period block first timing net is cycles kind =
       shown_later closed hubs now number net is.at is.settled (λ n rows. IsReg n (span_at timing period block) slot first (rows from) (rows number))
       (λ n inputs rows shows. subst (λ (c : ℕ). IsReg n (span_of c (record { period = period; latency = timing.latency block })) slot first (rows from) (rows number)) cycles
       (subst (λ (k : NetKind). NetShows now.cycles n inputs rows net.width net.signed k (rows number)) kind shows))
 
-  pub enabled : (number enable from period block : ℕ) (reset : Bool) (first : ℤ) (timing : Timing) (net : Net) → IsSettled closed hubs now number net → now.cycles ≡ timing.cycles → net.kind ≡ EnReg (record { period = period; latency = timing.latency block }) enable reset first from
+  pub enabled : (number enable from period block : ℕ) (reset : Bool) (first : ℤ) (timing : Timing) (net : Net)
+      → IsSettled closed hubs now number net → now.cycles ≡ timing.cycles
+      → net.kind ≡ EnReg (record { period = period; latency = timing.latency block }) enable reset first from
       → InLater closed hubs now (λ n rows. IsEnReg n (span_at timing period block) reset first (rows enable) (rows from) (rows number))
   enabled number enable from period block reset first timing net is cycles kind =
       shown_later closed hubs now number net is.at is.settled (λ n rows. IsEnReg n (span_at timing period block) reset first (rows enable) (rows from) (rows number))

@@ -1,5 +1,6 @@
 -- What is counted and named goes on with one more element.
-use Rattle.std.proofs.Common.{◌≡◌, ℕ, suc, ◌+◌, ◌-◌, ◌<◌, ◌≤◌, ◌++◌, inl, inr, false, List, [], ◌∷◌, length, Contains, slice_index_or, Option, Some, None, ap, sym, ◌∙◌, subst, refl, append-nil, length-append, IsTrue, arith}
+use Rattle.std.proofs.Common.{◌≡◌, ℕ, suc, ◌+◌, ◌-◌, ◌<◌, ◌≤◌, ◌++◌, inl, inr, false, List, [], ◌∷◌, length, Contains, slice_index_or, Option, Some, None, ap, sym, ◌∙◌, subst, refl, append-nil}
+use Rattle.std.proofs.Common.{length-append, IsTrue, arith}
 use Rattle.std.specs.Prelude.{slice_get, nat_lt, not, ◌&&◌, ◌^◌, Bool, if◌then◌else◌}
 use Rattle.std.specs.List.{flat_map}
 use Rattle.std.proofs.lemmas.List.Elements.{Contains-push}
@@ -60,7 +61,9 @@ pipelining_shows (Logic operator) inputs outputs is ports = ports.1
 pipelining_shows (Convert stored) inputs outputs is ports = ports.1
 pipelining_shows _ inputs outputs is ports = absurd (false≢true is)
 
-module _ (setting : Setting) (listed : InputsAreListed) (valid : TypesAreValid) (above : PeriodsAreAbove) (ordered : IsOrdered setting.design.checked.now.diagram setting.design.checked.now.order) (set : IsSet setting) where
+module _ (setting : Setting) (listed : InputsAreListed) (valid : TypesAreValid) (above : PeriodsAreAbove)
+    (ordered : IsOrdered setting.design.checked.now.diagram setting.design.checked.now.order)
+    (set : IsSet setting) where
   abbrev drawn : Diagram
   drawn = setting.design.checked.now.diagram
 
@@ -76,18 +79,26 @@ module _ (setting : Setting) (listed : InputsAreListed) (valid : TypesAreValid) 
         let place = place_other drawn set.stood.earlier set.stood.later setting.firsts.now set.stood.has block b port element shown other in
         let from = place.0 in
         let to = place.1 in
-        owner_is (own_hubs drawn) (length drawn.blocks) block (hub_at setting.firsts.now block port element - length (root_inputs drawn (attributes_of drawn))) (slice_get_within drawn.blocks block b shown.block_is) (omega (arith, from)) (omega (arith, from, to))
+        owner_is (own_hubs drawn) (length drawn.blocks) block
+        (hub_at setting.firsts.now block port element - length (root_inputs drawn (attributes_of drawn)))
+        (slice_get_within drawn.blocks block b shown.block_is) (omega (arith, from))
+        (omega (arith, from, to))
 
     -- what the net counts for
     registers_here : hub_registers drawn setting.design.plan.now hub ≡ registers_by drawn setting.design.plan.now block (Some b)
     registers_here =
-        cond-false {A = ℕ} (nat_lt hub (length (root_inputs drawn (attributes_of drawn)))) 0 (registers_by drawn setting.design.plan.now (owner_of drawn hub) (slice_get drawn.blocks (owner_of drawn hub))) (le-ltb hub (length (root_inputs drawn (attributes_of drawn))) low)
+        cond-false {A = ℕ} (nat_lt hub (length (root_inputs drawn (attributes_of drawn)))) 0
+        (registers_by drawn setting.design.plan.now (owner_of drawn hub)
+        (slice_get drawn.blocks (owner_of drawn hub)))
+        (le-ltb hub (length (root_inputs drawn (attributes_of drawn))) low)
         ∙ ap (λ (x : ℕ). registers_by drawn setting.design.plan.now x (slice_get drawn.blocks x)) owner
         ∙ ap (registers_by drawn setting.design.plan.now block) shown.block_is
 
     products_here : hub_products drawn setting.design.plan.now hub ≡ products_by drawn setting.design.plan.now block
     products_here =
-        cond-false {A = ℕ} (nat_lt hub (length (root_inputs drawn (attributes_of drawn)))) 0 (products_by drawn setting.design.plan.now (owner_of drawn hub)) (le-ltb hub (length (root_inputs drawn (attributes_of drawn))) low)
+        cond-false {A = ℕ} (nat_lt hub (length (root_inputs drawn (attributes_of drawn)))) 0
+        (products_by drawn setting.design.plan.now (owner_of drawn hub))
+        (le-ltb hub (length (root_inputs drawn (attributes_of drawn))) low)
         ∙ ap (products_by drawn setting.design.plan.now) owner
 
     -- registers stand behind blocks of one port alone
@@ -113,18 +124,31 @@ module _ (setting : Setting) (listed : InputsAreListed) (valid : TypesAreValid) 
     ]
 
     most_stages : stages_at setting.design.plan.now block ≤ 64
-    most_stages = let planned = set.designed.scheduled.planned in let size = planned.size in let inside = slice_get_within drawn.blocks block b shown.block_is in planned.stages block 0 (omega (arith, size, inside))
+    most_stages = let planned = set.designed.scheduled.planned in let size = planned.size in let inside =
+        slice_get_within drawn.blocks block b shown.block_is in planned.stages block 0 (omega (arith, size, inside))
 
-    pub tallied_next : (now middle piped_net after start : Circuit) (spots : Spots) (entry : Entry) (piped : Piped) → AreEven spots → hub ≡ length spots.entries → IsBegun setting start → AreTallied drawn setting.design.plan.now (timing_for setting.design) setting.firsts.now start now spots
-        → IsEntered setting now middle block b port element entry → IsWord (width_of ((attributes_of drawn).type_at block 1)) (is_signed ((attributes_of drawn).type_at block 1)) → length spots.entries < length start.nets → IsPipedBy drawn (timing_for setting.design) middle piped_net block element entry.net piped
-        → IsResize piped_net.nets (length spots.entries) → IsConnected piped_net after (length spots.entries) piped.end → (final : Circuit) → final ≡ with_labels after (product_labels block element entry.multiply) → block < 2 ^ 64 → element < 2 ^ 64
+    pub tallied_next : (now middle piped_net after start : Circuit) (spots : Spots) (entry : Entry) (piped : Piped)
+        → AreEven spots → hub ≡ length spots.entries → IsBegun setting start
+        → AreTallied drawn setting.design.plan.now
+        (timing_for setting.design) setting.firsts.now start now spots
+        → IsEntered setting now middle block b port element entry
+        → IsWord (width_of ((attributes_of drawn).type_at block 1))
+        (is_signed ((attributes_of drawn).type_at block 1)) → length spots.entries < length start.nets
+        → IsPipedBy drawn (timing_for setting.design) middle piped_net block element entry.net piped
+        → IsResize piped_net.nets (length spots.entries)
+        → IsConnected piped_net after (length spots.entries) piped.end → (final : Circuit)
+        → final ≡ with_labels after (product_labels block element entry.multiply) → block < 2 ^ 64
+        → element < 2 ^ 64
         → AreTallied drawn setting.design.plan.now (timing_for setting.design) setting.firsts.now start final (with_spot spots entry.net entry.state piped.begin)
     tallied_next now middle piped_net after start spots entry piped even here begun tally entered typed inside put waits connected final names small_block small_element =
         let grown = longer now middle entered.appends.extends in
         let since = tally.more in
         let there = slice_get_within middle.nets entry.net entered.word.net entered.word.is in
         let over =
-        piped_over drawn (timing_for setting.design) (length start.nets) middle piped_net after (length spots.entries) block element entry.net piped typed there (there_by_call now middle entered.named entered.appends tally.there) inside (omega (arith, grown, since)) waits connected
+        piped_over drawn (timing_for setting.design) (length start.nets) middle piped_net after
+        (length spots.entries) block element entry.net piped typed there
+        (there_by_call now middle entered.named entered.appends tally.there) inside
+        (omega (arith, grown, since)) waits connected
         (λ p is. above drawn block p ordered.checked is) put
         in
         let more = over.more in
@@ -133,17 +157,27 @@ module _ (setting : Setting) (listed : InputsAreListed) (valid : TypesAreValid) 
         let registers = over.registers in
         let few = entered.few in
         let counted = tally.registers in
-        let here_registers : hub_registers drawn setting.design.plan.now (length spots.entries) ≡ registers_by drawn setting.design.plan.now block (Some b) = ap (hub_registers drawn setting.design.plan.now) (sym here) ∙ registers_here in
-        let here_products : hub_products drawn setting.design.plan.now (length spots.entries) ≡ products_by drawn setting.design.plan.now block = ap (hub_products drawn setting.design.plan.now) (sym here) ∙ products_here in
+        let here_registers : hub_registers drawn setting.design.plan.now (length spots.entries)
+        ≡ registers_by drawn setting.design.plan.now block (Some b) =
+        ap (hub_registers drawn setting.design.plan.now) (sym here) ∙ registers_here in
+        let here_products : hub_products drawn setting.design.plan.now (length spots.entries)
+        ≡ products_by drawn setting.design.plan.now block =
+        ap (hub_products drawn setting.design.plan.now) (sym here) ∙ products_here in
         let own = tally.own in
         let entered_own = entered.own in
         let over_own = over.others_are in
-        let registers_next : register_count after.nets ≤ register_count start.nets + before (hub_registers drawn setting.design.plan.now) (suc (length spots.entries)) = omega (arith, registers, few, counted, here_registers) in
-        let own_next : length (others after) ≡ length (others start) + before (hub_products drawn setting.design.plan.now) (suc (length spots.entries)) = omega (arith, over_own, entered_own, own, here_products) in
+        let registers_next : register_count after.nets
+        ≤ register_count start.nets + before (hub_registers drawn setting.design.plan.now)
+        (suc (length spots.entries)) = omega (arith, registers, few, counted, here_registers) in
+        let own_next : length (others after)
+        ≡ length (others start) + before (hub_products drawn setting.design.plan.now)
+        (suc (length spots.entries)) = omega (arith, over_own, entered_own, own, here_products) in
         let nets : final.nets ≡ after.nets = ap (λ (c : Circuit). c.nets) names in
         let labels : final.labels ≡ after.labels ++ product_labels block element entry.multiply = ap (λ (c : Circuit). c.labels) names in
         let all_labels : final.labels ≡ (now.labels ++ stage_labels piped.begin block element over.stage_count) ++ product_labels block element entry.multiply =
-        labels ∙ ap (λ (all : List NetLabel). all ++ product_labels block element entry.multiply) (over.labels_are ∙ ap (λ (all : List NetLabel). all ++ stage_labels piped.begin block element over.stage_count) entered.appends.extends.labels)
+        labels ∙ ap (λ (all : List NetLabel). all ++ product_labels block element entry.multiply)
+        (over.labels_are ∙ ap (λ (all : List NetLabel). all
+        ++ stage_labels piped.begin block element over.stage_count) entered.appends.extends.labels)
         in
         let size_final : length final.nets ≡ length after.nets = ap length nets in
         let registers_final : register_count final.nets ≡ register_count after.nets = ap register_count nets in
@@ -151,32 +185,55 @@ module _ (setting : Setting) (listed : InputsAreListed) (valid : TypesAreValid) 
           more = omega (arith, since, grown, more, size_final);
           there = subst ReadThere (sym nets) over.there;
           pipelines = λ also q outer member period shows early is_period any.
-              pipeline_by_names drawn (timing_for setting.design) (length start.nets) also member period (slice_index_or (spots.stages ++ piped.begin ∷ []) (hub_at setting.firsts.now also outer member) 0) after final (product_labels block element entry.multiply) nets labels (elim (cases_lt (hub_at setting.firsts.now also outer member) (length spots.entries)) [
+              pipeline_by_names drawn (timing_for setting.design) (length start.nets) also member period
+              (slice_index_or (spots.stages ++ piped.begin ∷ [])
+              (hub_at setting.firsts.now also outer member) 0) after final
+              (product_labels block element entry.multiply) nets labels
+              (elim (cases_lt (hub_at setting.firsts.now also outer member)
+              (length spots.entries)) [
                 | inl less ↦
                     let w : ℕ = slice_index_or spots.stages (hub_at setting.firsts.now also outer member) 0 in
                     let stood = tally.pipelines also q outer member period shows less is_period any in
                     let past = stood.past in
                     let size = stood.size in
                     let at_middle =
-                    pipeline_by_call drawn (timing_for setting.design) (length start.nets) also member period (slice_index_or spots.stages (hub_at setting.firsts.now also outer member) 0) now middle entered.named entered.appends
+                    pipeline_by_call drawn (timing_for setting.design) (length start.nets) also member period
+                    (slice_index_or spots.stages (hub_at setting.firsts.now also outer member) 0) now middle
+                    entered.named entered.appends
                     (λ read contained. let h = entered.below start begun since read contained in inl (omega (arith, h, past))) stood
                     in
                     let kept =
                     over.kept also member period (slice_index_or spots.stages (hub_at setting.firsts.now also outer member) 0) (omega (arith, size, grown))
                     (elim entered.stands [ inl names ↦ (let h = entered.below start begun since entry.net names in inl (omega (arith, h, past))) | inr new ↦ inr (omega (arith, new, size)) ]) at_middle
                     in
-                    subst (λ (x : ℕ). IsPipelineAt drawn (timing_for setting.design) (length start.nets) after also member period x) (sym (front_read spots.stages piped.begin (hub_at setting.firsts.now also outer member) (omega (arith, less, stages)))) kept
+                    subst (λ (x : ℕ). IsPipelineAt drawn (timing_for setting.design)
+                    (length start.nets) after also member period x)
+                    (sym (front_read spots.stages piped.begin (hub_at setting.firsts.now also outer member)
+                    (omega (arith, less, stages)))) kept
                 | inr past ↦
                     let same : hub_at setting.firsts.now also outer member ≡ hub = omega (arith, past, early, count, here) in
-                    let triple = one_hub drawn setting.design.checked.now.order set.stood.earlier set.stood.later setting.firsts.now set.stood.has listed valid ordered block b port element also q outer member shown shows other same in
+                    let triple = one_hub drawn setting.design.checked.now.order set.stood.earlier set.stood.later
+                    setting.firsts.now set.stood.has listed valid ordered block b port element also q outer
+                    member shown shows other same in
                     let own_period = ap (attributes_of drawn).period_at triple.0 ∙ is_period in
                     let stages_same : (timing_for setting.design).stages block ≡ (timing_for setting.design).stages also = ap (timing_for setting.design).stages triple.0 in
                     let own_line = over.own period own_period (omega (arith, any, stages_same)) in
-                    subst (λ (x : ℕ). IsPipelineAt drawn (timing_for setting.design) (length start.nets) after also member period x) (sym (at_last spots.stages piped.begin (hub_at setting.firsts.now also outer member) (omega (arith, same, here, stages))))
-                    (subst (λ (x : ℕ). IsPipelineAt drawn (timing_for setting.design) (length start.nets) after x member period piped.begin) triple.0 (subst (λ (x : ℕ). IsPipelineAt drawn (timing_for setting.design) (length start.nets) after block x period piped.begin) triple.2 own_line))
+                    subst (λ (x : ℕ). IsPipelineAt drawn (timing_for setting.design)
+                    (length start.nets) after also member period x)
+                    (sym (at_last spots.stages piped.begin (hub_at setting.firsts.now also outer member)
+                    (omega (arith, same, here, stages))))
+                    (subst (λ (x : ℕ). IsPipelineAt drawn (timing_for setting.design)
+                    (length start.nets) after x member period piped.begin) triple.0
+                    (subst (λ (x : ℕ). IsPipelineAt drawn (timing_for setting.design)
+                    (length start.nets) after block x period piped.begin) triple.2 own_line))
               ]);
-          registers = subst (λ (n : ℕ). register_count final.nets ≤ register_count start.nets + before (hub_registers drawn setting.design.plan.now) n) (sym count) (omega (arith, registers_next, registers_final));
-          own = subst (λ (n : ℕ). length (others final) ≡ length (others start) + before (hub_products drawn setting.design.plan.now) n) (sym count) (ap (λ (all : List Net). length (flat_map (λ (n : Net). own_factors n.kind) all)) nets ∙ own_next);
+          registers = subst (λ (n : ℕ). register_count final.nets
+              ≤ register_count start.nets + before (hub_registers drawn setting.design.plan.now) n) (sym count)
+              (omega (arith, registers_next, registers_final));
+          own = subst (λ (n : ℕ). length (others final)
+              ≡ length (others start) + before (hub_products drawn setting.design.plan.now) n) (sym count)
+              (ap (λ (all : List Net). length (flat_map (λ (n : Net). own_factors n.kind) all)) nets
+              ∙ own_next);
           shared = ap (flat_map (λ (n : Net). unit_factors n.kind)) nets ∙ over.units_are ∙ entered.shared ∙ tally.shared;
           labelled = subst (λ (n : ℕ). AreLabelled setting.firsts.now final.labels (length final.nets) n) (sym count) (elim (cases_lt 1 port) [
             | inl many ↦
@@ -186,7 +243,10 @@ module _ (setting : Setting) (listed : InputsAreListed) (valid : TypesAreValid) 
                 ] in
                 let nothing : entry.multiply ≡ None = one_multiplied entry.multiply (λ k e. (entered.new_product k e).2) many in
                 let same : final.labels ≡ now.labels =
-                all_labels ∙ ap (λ (n : ℕ). (now.labels ++ stage_labels piped.begin block element n) ++ product_labels block element entry.multiply) none ∙ ap (λ (m : Option ℕ). (now.labels ++ []) ++ product_labels block element m) nothing ∙ append-nil (now.labels ++ []) ∙ append-nil now.labels
+                all_labels ∙ ap (λ (n : ℕ). (now.labels ++ stage_labels piped.begin block element n)
+                ++ product_labels block element entry.multiply) none
+                ∙ ap (λ (m : Option ℕ). (now.labels ++ []) ++ product_labels block element m) nothing
+                ∙ append-nil (now.labels ++ []) ∙ append-nil now.labels
                 in
                 subst (λ (all : List NetLabel). AreLabelled setting.firsts.now all (length final.nets) (suc (length spots.entries))) (sym same)
                 (labelled_wider setting.firsts.now now.labels (length now.nets) (length final.nets) (length spots.entries) (omega (arith, grown, more, size_final)) tally.labelled))
@@ -197,8 +257,12 @@ module _ (setting : Setting) (listed : InputsAreListed) (valid : TypesAreValid) 
                 let few_stages = over.stage_few in
                 let most : stages_at setting.design.plan.now block ≤ 64 = most_stages in
                 subst (λ (all : List NetLabel). AreLabelled setting.firsts.now all (length final.nets) (suc (length spots.entries))) (sym all_labels)
-                (labelled_next setting.firsts.now (length spots.entries) (length now.nets) block element piped.begin own_hub small_block small_element over.stage_count (length final.nets) now.labels entry.multiply tally.labelled
-                (λ any_stage. let h = (over.stage_new any_stage).0 in omega (arith, h, grown)) (omega (arith, few_stages, most)) (omega (arith, grown, more, size_final)) (λ any_stage. let h = (over.stage_new any_stage).1 in omega (arith, h, size_final))
+                (labelled_next setting.firsts.now (length spots.entries)
+                (length now.nets) block element piped.begin own_hub small_block small_element over.stage_count
+                (length final.nets) now.labels entry.multiply tally.labelled
+                (λ any_stage. let h = (over.stage_new any_stage).0 in omega (arith, h, grown))
+                (omega (arith, few_stages, most)) (omega (arith, grown, more, size_final))
+                (λ any_stage. let h = (over.stage_new any_stage).1 in omega (arith, h, size_final))
                 (λ k e.
                 let is = entered.new_product k e in
                 let low_k = is.0 in
@@ -208,8 +272,13 @@ module _ (setting : Setting) (listed : InputsAreListed) (valid : TypesAreValid) 
           multiplied = λ also q member shows early owns. elim (cases_lt (hub_at setting.firsts.now also 1 member) (length spots.entries)) [
             | inl less ↦
                 let was = tally.multiplied also q member shows less owns in
-                let at = over.products_kept was.number was.net (still-there now middle was.number was.net entered.appends.extends was.is) (ap (λ (kind : NetKind). length (own_factors kind)) was.multiplies) in
-                let named = over.labels_kept (record { net = was.number; name = multiplication_name also member }) (subst (λ (all : List NetLabel). Contains all (record { net = was.number; name = multiplication_name also member })) (sym entered.appends.extends.labels) was.named) in
+                let at = over.products_kept was.number was.net
+                (still-there now middle was.number was.net entered.appends.extends was.is)
+                (ap (λ (kind : NetKind). length (own_factors kind)) was.multiplies) in
+                let named = over.labels_kept (record { net = was.number; name = multiplication_name also member })
+                (subst (λ (all : List NetLabel). Contains all
+                (record { net = was.number; name = multiplication_name also member }))
+                (sym entered.appends.extends.labels) was.named) in
                 record {
                   number = was.number;
                   net = was.net;
@@ -221,12 +290,20 @@ module _ (setting : Setting) (listed : InputsAreListed) (valid : TypesAreValid) 
                 }
             | inr past ↦
                 let same : hub_at setting.firsts.now also 1 member ≡ hub = omega (arith, past, early, count, here) in
-                let triple = one_hub drawn setting.design.checked.now.order set.stood.earlier set.stood.later setting.firsts.now set.stood.has listed valid ordered block b port element also q 1 member shown shows other same in
+                let triple = one_hub drawn setting.design.checked.now.order set.stood.earlier set.stood.later
+                setting.firsts.now set.stood.has listed valid ordered block b port element also q 1 member shown
+                shows other same in
                 let product = entered.product (ap (products_by drawn setting.design.plan.now) triple.0 ∙ owns) in
                 let at = over.products_kept product.number product.net product.is (ap (λ (kind : NetKind). length (own_factors kind)) product.kind) in
                 let one : NetLabel = record { net = product.number; name = multiplication_name block element } in
-                let told : product_labels block element entry.multiply ≡ record { net = product.number; name = multiplication_name block element } ∷ [] = ap (product_labels block element) product.told in
-                let named : Contains (after.labels ++ record { net = product.number; name = multiplication_name block element } ∷ []) (record { net = product.number; name = multiplication_name block element }) = Contains-push after.labels (record { net = product.number; name = multiplication_name block element }) in
+                let told : product_labels block element entry.multiply
+                ≡ record { net = product.number; name = multiplication_name block element } ∷ [] =
+                ap (product_labels block element) product.told in
+                let named : Contains (after.labels
+                ++ record { net = product.number; name = multiplication_name block element } ∷ [])
+                (record { net = product.number; name = multiplication_name block element }) =
+                Contains-push after.labels
+                (record { net = product.number; name = multiplication_name block element }) in
                 subst (λ (x : ℕ). IsMultiplied final (multiplication_name x member)) triple.0 (subst (λ (x : ℕ). IsMultiplied final (multiplication_name block x)) triple.2
                 (record {
                   number = product.number;
@@ -234,7 +311,9 @@ module _ (setting : Setting) (listed : InputsAreListed) (valid : TypesAreValid) 
                   args = product.args;
                   is = ap (λ (all : List Net). slice_get all product.number) nets ∙ at;
                   multiplies = product.kind;
-                  named = subst (λ (all : List NetLabel). Contains all (record { net = product.number; name = multiplication_name block element })) (sym (labels ∙ ap (λ (more : List NetLabel). after.labels ++ more) told)) named;
+                  named = subst (λ (all : List NetLabel). Contains all
+                      (record { net = product.number; name = multiplication_name block element }))
+                      (sym (labels ∙ ap (λ (more : List NetLabel). after.labels ++ more) told)) named;
                 }))
           ];
         }

@@ -8,7 +8,8 @@ use Rattle.fx_type.specs.FxType.{is_signed, width_of}
 use Rattle.dg_model.specs.declared.diagram.Diagram.{Diagram}
 use Rattle.dg_model.specs.declared.diagram.Block.{Block}
 use Rattle.dg_model.specs.declared.kind.Kind.{Kind}
-use Rattle.dg_model.specs.declared.kind.Kind.TheVariants.{Inport, Outport, Constant, Ground, Sum, Gain, Product, Switch, Relational, Logic, Convert, Delay, Mux, Demux, RateTransition, Pass, EnableTest, EnOut, Terminator}
+use Rattle.dg_model.specs.declared.kind.Kind.TheVariants.{Inport, Outport, Constant, Ground, Sum, Gain, Product, Switch, Relational, Logic, Convert, Delay, Mux, Demux, RateTransition, Pass}
+use Rattle.dg_model.specs.declared.kind.Kind.TheVariants.{EnableTest, EnOut, Terminator}
 use Rattle.dg_model.specs.declared.op.Op.{Op}
 use Rattle.dg_model.specs.Attributes.{attributes_of}
 use Rattle.dg_model.specs.Equation.{IsOpOf}
@@ -61,7 +62,9 @@ module _ (before after : Circuit) (operation : Operation) (operands : List ℕ) 
     registers =
         let extends = lowers.appends.extends in
         let none = no_registers extends.added (λ k net at.
-        let there : slice_get after.nets (length before.nets + k) ≡ Some net = ap (λ (nets : List Net). slice_get nets (length before.nets + k)) extends.nets ∙ behind before.nets extends.added k ∙ at in
+        let there : slice_get after.nets (length before.nets + k) ≡ Some net =
+        ap (λ (nets : List Net). slice_get nets (length before.nets + k)) extends.nets
+        ∙ behind before.nets extends.added k ∙ at in
         let comb = (comb_there (length before.nets + k) net (omega arith) there).1 in
         let kind : comb.net.kind ≡ net.kind = ap (λ (n : Net). n.kind) (same_Some comb.net net (sym comb.is ∙ there)) in
         ap is_register (sym kind ∙ comb.kind)) in
@@ -102,7 +105,10 @@ module _ (element : ℕ) (param control : FxType) (op : Op) where
   keeps_none enable driver (Delay delay initial reset) is = absurd is
   keeps_none enable driver _ is = refl
 
-  pub types_carried : (diagram : Diagram) (block : ℕ) (b : Block) (port : ℕ) (kind : Kind) → IsOpOf kind element param control op → operand_types diagram (attributes_of diagram) block b port kind ≡ types_into diagram (attributes_of diagram) block b.inputs
+  pub types_carried : (diagram : Diagram) (block : ℕ) (b : Block) (port : ℕ) (kind : Kind)
+      → IsOpOf kind element param control op
+      → operand_types diagram (attributes_of diagram) block b port kind
+      ≡ types_into diagram (attributes_of diagram) block b.inputs
   types_carried diagram block b port (Outport number) is = refl
   types_carried diagram block b port (Sum negative accum) is = refl
   types_carried diagram block b port (Gain value spec) is = refl
@@ -138,7 +144,9 @@ module _ (element : ℕ) (param control : FxType) (op : Op) where
 
   module _ (diagram : Diagram) (timing : Timing) (places : Places) (closed hubs : ℕ) (now : Circuit) (block : ℕ) (b : Block) (port : ℕ) where
     made_carried : (kind : Kind) → IsOpOf kind element param control op → ((row_of kind).hardware.multiplies ≡ true → timing.slot block element ≡ None)
-        → InLater closed hubs now (λ n rows. IsCarriedOut diagram (attributes_of diagram) timing n (waves_of places rows) block b port element) → IsMadeLater diagram timing places closed hubs now block b port element kind
+        → InLater closed hubs now (λ n rows. IsCarriedOut diagram (attributes_of diagram) timing n
+        (waves_of places rows) block b port element)
+        → IsMadeLater diagram timing places closed hubs now block b port element kind
     made_carried (Inport number width) is slot made = absurd is
     made_carried (Outport number) is slot made = made
     made_carried (Constant value) is slot made = absurd is
@@ -160,9 +168,14 @@ module _ (element : ℕ) (param control : FxType) (op : Op) where
     made_carried Terminator is slot made = absurd is
 
 -- an element that the operation of its block gives
-pub carried_entry : (diagram : Diagram) (timing : Timing) (before after : Circuit) (block : ℕ) (b : Block) (port element : ℕ) (operands : List ℕ) (entry : Entry) (op : Op) (number : ℕ) (type : FxType) → IsOpOf b.kind element ((attributes_of diagram).param_at block) (type_into diagram (attributes_of diagram) block 2) op
+pub carried_entry : (diagram : Diagram) (timing : Timing) (before after : Circuit) (block : ℕ) (b : Block)
+    (port element : ℕ) (operands : List ℕ) (entry : Entry) (op : Op) (number : ℕ) (type : FxType)
+    → IsOpOf b.kind element ((attributes_of diagram).param_at block)
+    (type_into diagram (attributes_of diagram) block 2) op
     → Lowers before after (operation_at diagram (attributes_of diagram) block b op) operands → IsLowered before after (operation_at diagram (attributes_of diagram) block b op) operands number
-    → AreArgs before (types_into diagram (attributes_of diagram) block b.inputs) operands → ((port : ℕ) → type ≡ (attributes_of diagram).type_at block port) → entry.net ≡ number → entry.multiply ≡ number_behind (length before.nets) (multiply_of op)
+    → AreArgs before (types_into diagram (attributes_of diagram) block b.inputs) operands
+    → ((port : ℕ) → type ≡ (attributes_of diagram).type_at block port) → entry.net ≡ number
+    → entry.multiply ≡ number_behind (length before.nets) (multiply_of op)
     → PutsEntry diagram timing before after block b port element operands entry
 carried_entry diagram timing before after block b port element operands entry op number type is_op lowers lowered args types net multiply = record {
   count = 0;
@@ -181,7 +194,9 @@ carried_entry diagram timing before after block b port element operands entry op
       let named : IsLoweredIn closed hubs after operation (offered_args places block b element) (places.entry block port element) =
       subst (λ (list : List ℕ). IsLoweredIn closed hubs after operation list (places.entry block port element)) same
       (subst (λ (n : ℕ). IsLoweredIn closed hubs after operation operands n) (sym (at.net ∙ net)) given) in
-      made_carried element param control op diagram timing places closed hubs after block b port b.kind is_op slot (carried_out diagram (attributes_of diagram) timing places closed hubs after block b port element op is_op named);
+      made_carried element param control op diagram timing places closed hubs after block b port b.kind is_op slot
+      (carried_out diagram
+      (attributes_of diagram) timing places closed hubs after block b port element op is_op named);
 }
   where
     operation : Operation

@@ -62,7 +62,9 @@ module _ (diagram : Diagram) (plan : Resolved) where
       let here : length (own n) ≡ shared_width diagram plan n = own_count (is_shared diagram (attributes_of diagram) plan n) n in
       ap (λ (xs : List Operation). length xs) last ∙ length-append (those 0 n) (own n) ∙ omega (arith, before_it, here)
 
-  own_at : (block element : ℕ) → is_shared diagram (attributes_of diagram) plan block ≡ true → element < (attributes_of diagram).width_at block 1 → slice_get (own block) element ≡ Some (operation block element)
+  own_at : (block element : ℕ) → is_shared diagram (attributes_of diagram) plan block ≡ true
+      → element < (attributes_of diagram).width_at block 1
+      → slice_get (own block) element ≡ Some (operation block element)
   own_at block element shared below =
       let e : 0 + element ≡ element = omega arith in
       ap (λ (xs : List Operation). slice_get xs element) (cond-true {A = List Operation} (is_shared diagram (attributes_of diagram) plan block) (operations_of (attributes_of diagram) block) [] shared)

@@ -62,7 +62,9 @@ module _ (diagram : Diagram) (attributes : Attributes) (plan : Resolved) where
   those_from from n = flat_map (operations_of attributes) (filter (is_shared diagram attributes plan) (numbers_from from n))
 
   abbrev with_those : Bool → ℕ → ℕ → List Operation
-  with_those b from n = flat_map (operations_of attributes) (cond b (from ∷ filter (is_shared diagram attributes plan) (numbers_from (suc from) n)) (filter (is_shared diagram attributes plan) (numbers_from (suc from) n)))
+  with_those b from n = flat_map (operations_of attributes)
+      (cond b (from ∷ filter (is_shared diagram attributes plan) (numbers_from (suc from) n))
+      (filter (is_shared diagram attributes plan) (numbers_from (suc from) n)))
 
   -- an operation among those of the blocks from a place on
   pub record IsAmong (from n : ℕ) (o : Operation) : Type 0 where
@@ -78,7 +80,9 @@ module _ (diagram : Diagram) (attributes : Attributes) (plan : Resolved) where
   among from zero k o at = absurd (none-some o at)
   among from (suc n) k o at = go (λ j there. among (suc from) n j o there) (is_shared diagram attributes plan from) refl k at
     where
-      go : ((j : ℕ) → slice_get (those_from (suc from) n) j ≡ Some o → IsAmong (suc from) n o) → (b : Bool) → is_shared diagram attributes plan from ≡ b → (k : ℕ) → slice_get (with_those b from n) k ≡ Some o → IsAmong from (suc n) o
+      go : ((j : ℕ) → slice_get (those_from (suc from) n) j ≡ Some o → IsAmong (suc from) n o) → (b : Bool)
+          → is_shared diagram attributes plan from ≡ b → (k : ℕ) → slice_get (with_those b from n) k ≡ Some o
+          → IsAmong from (suc n) o
       go rest false e k at = past_among from n o (rest k at)
       go rest true e k at = elim (where_in (operations_of attributes from) (those_from (suc from) n) k o at) [
         | inl here ↦
@@ -99,7 +103,9 @@ module _ (diagram : Diagram) (attributes : Attributes) (plan : Resolved) where
   once from zero j k o at there = absurd (none-some o at)
   once from (suc n) j k o at there = go (λ i l a b. once (suc from) n i l o a b) (is_shared diagram attributes plan from) j k at there
     where
-      go : ((i l : ℕ) → slice_get (those_from (suc from) n) i ≡ Some o → slice_get (those_from (suc from) n) l ≡ Some o → i ≡ l) → (b : Bool) (j k : ℕ) → slice_get (with_those b from n) j ≡ Some o → slice_get (with_those b from n) k ≡ Some o → j ≡ k
+      go : ((i l : ℕ) → slice_get (those_from (suc from) n) i ≡ Some o
+          → slice_get (those_from (suc from) n) l ≡ Some o → i ≡ l) → (b : Bool) (j k : ℕ)
+          → slice_get (with_those b from n) j ≡ Some o → slice_get (with_those b from n) k ≡ Some o → j ≡ k
       go rest false j k at there = rest j k at there
       go rest true j k at there = elim (where_in (operations_of attributes from) (those_from (suc from) n) j o at) [
         | inl here ↦ elim (where_in (operations_of attributes from) (those_from (suc from) n) k o there) [

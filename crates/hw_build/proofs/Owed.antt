@@ -30,8 +30,12 @@ count-within (one ∷ operations) most each =
 no-shared : Shared
 no-shared = record { block = 0; element = 0 }
 
-module _ (above : PeriodsAreAbove) (short : PeriodsAreShort) (served : OperationsAreServed) (periods : OperationsHavePeriods) (differ : SlotsDiffer) (below : UnitsAreThere) (used : UnitsAreUsed) (fits : ReadyFits)
-    (diagram : Diagram) (plan : Resolved) (timing : Timing) (net : Circuit) (operations : List Operation) (scheduled : IsScheduled diagram plan timing) (cycles : net.cycles ≡ plan.cycles) (made : AreMade diagram plan timing net operations) where
+module _ (above : PeriodsAreAbove) (short : PeriodsAreShort) (served : OperationsAreServed)
+    (periods : OperationsHavePeriods) (differ : SlotsDiffer) (below : UnitsAreThere) (used : UnitsAreUsed)
+    (fits : ReadyFits)
+    (diagram : Diagram) (plan : Resolved) (timing : Timing) (net : Circuit) (operations : List Operation)
+    (scheduled : IsScheduled diagram plan timing) (cycles : net.cycles ≡ plan.cycles)
+    (made : AreMade diagram plan timing net operations) where
   abbrev kind : Shared → OperationKind
   kind o = kind_of diagram (attributes_of diagram) timing o
 
@@ -71,7 +75,9 @@ module _ (above : PeriodsAreAbove) (short : PeriodsAreShort) (served : Operation
       }
 
   -- nets of one type have one word
-  one-word : (first second : ℕ) (type other : FxType) → ◌≡◌ {A = FxType} type other → HasWord net.nets first (width_of type) (is_signed type) → HasWord net.nets second (width_of other) (is_signed other) → SameWord net net first second
+  one-word : (first second : ℕ) (type other : FxType) → ◌≡◌ {A = FxType} type other
+      → HasWord net.nets first (width_of type) (is_signed type)
+      → HasWord net.nets second (width_of other) (is_signed other) → SameWord net net first second
   one-word first second type other same p q = λ found there.
       let e : p.net ≡ found = same_Some p.net found (sym p.is ∙ there) in
       record {
@@ -96,7 +102,10 @@ module _ (above : PeriodsAreAbove) (short : PeriodsAreShort) (served : Operation
   all-used : (unit : ℕ) → unit < unit_count operations → IsUsed operations unit
   all-used unit less =
       let within : unit_count operations ≤ units_in_all diagram (attributes_of diagram) plan timing =
-      count-within operations (units_in_all diagram (attributes_of diagram) plan timing) (λ k one at. let m = is-made k one at in let few = below diagram (attributes_of diagram) plan timing k (shared-at k) (is-shared k one at) in omega (arith, m.unit, few)) in
+      count-within operations (units_in_all diagram (attributes_of diagram) plan timing)
+      (λ k one at. let m = is-made k one at in let few =
+      below diagram (attributes_of diagram) plan timing k (shared-at k) (is-shared k one at) in
+      omega (arith, m.unit, few)) in
       let u = used diagram (attributes_of diagram) plan timing unit (omega (arith, less, within)) in
       let inside : u.0 < length operations = omega (arith, slice_get_within (shared_operations diagram (attributes_of diagram) plan) u.0 u.1 u.2, made.size) in
       let there = slice_get-get_or operations u.0 (record { frame = record { period = 0; latency = 0 }; slot = 0; unit = 0; left = 0; right = 0 }) inside in

@@ -10,7 +10,8 @@ use Rattle.dg_model.specs.declared.diagram.Block.{Block}
 use Rattle.dg_model.specs.declared.diagram.Edge.{Edge}
 use Rattle.dg_model.specs.declared.kind.Criterion.{Criterion}
 use Rattle.dg_model.specs.declared.kind.Kind.{Kind}
-use Rattle.dg_model.specs.declared.kind.Kind.TheVariants.{Inport, Outport, Constant, Ground, Sum, Gain, Product, Switch, Relational, Logic, Convert, Delay, Mux, Demux, RateTransition, Pass, EnableTest, EnOut, Terminator}
+use Rattle.dg_model.specs.declared.kind.Kind.TheVariants.{Inport, Outport, Constant, Ground, Sum, Gain, Product, Switch, Relational, Logic, Convert, Delay, Mux, Demux, RateTransition, Pass}
+use Rattle.dg_model.specs.declared.kind.Kind.TheVariants.{EnableTest, EnOut, Terminator}
 use Rattle.dg_model.specs.Attributes.{attributes_of}
 use Rattle.dg_model.specs.Checked.{IsChecked}
 use Rattle.dg_model.specs.Library.{row_of}
@@ -33,13 +34,16 @@ none_is x xs e = cc
 pub readable : (diagram : Diagram) (block : ℕ) (b : Block) → IsChecked diagram → slice_get diagram.blocks block ≡ Some b → IsReadable b
 readable diagram block b checked at = held IsReadable diagram.blocks block b checked.wired.blocks at
 
-first_port : (diagram : Diagram) (block port outputs element : ℕ) → outputs ≡ 1 → 1 ≤ port → port ≤ outputs → element < (attributes_of diagram).width_at block port → element < (attributes_of diagram).width_at block 1
+first_port : (diagram : Diagram) (block port outputs element : ℕ) → outputs ≡ 1 → 1 ≤ port → port ≤ outputs
+    → element < (attributes_of diagram).width_at block port → element < (attributes_of diagram).width_at block 1
 first_port diagram block port outputs element one from to below =
     let e : port ≡ 1 = omega (arith, one, from, to) in
     subst (λ (p : ℕ). element < (attributes_of diagram).width_at block p) e below
 
 -- a kind with a list has one output, and shows as many elements as it has itself
-own_width : (diagram : Diagram) (block port inputs outputs element : ℕ) (list : List Decimal) (kind : Kind) → (row_of kind).signal.lists ≡ list ∷ [] → HasPorts kind inputs outputs → 1 ≤ port → port ≤ shown_ports kind outputs
+own_width : (diagram : Diagram) (block port inputs outputs element : ℕ) (list : List Decimal) (kind : Kind)
+    → (row_of kind).signal.lists ≡ list ∷ [] → HasPorts kind inputs outputs → 1 ≤ port
+    → port ≤ shown_ports kind outputs
     → element < shown_width diagram (attributes_of diagram) kind block port → element < (attributes_of diagram).width_at block 1
 own_width diagram block port inputs outputs element list (Inport number width) is ports from to below = absurd (none_is list [] is)
 own_width diagram block port inputs outputs element list (Outport number) is ports from to below = absurd (none_is list [] is)
@@ -62,12 +66,15 @@ own_width diagram block port inputs outputs element list (EnOut reset initial) i
 own_width diagram block port inputs outputs element list Terminator is ports from to below = absurd (none_is list [] is)
 
 -- so each has its entry
-pub entry_there : (diagram : Diagram) (block : ℕ) (b : Block) (port element place : ℕ) (list : List Decimal) → IsChecked diagram → IsShown diagram (attributes_of diagram) block b port element → HasLists b.kind ((attributes_of diagram).width_at block 1)
+pub entry_there : (diagram : Diagram) (block : ℕ) (b : Block) (port element place : ℕ) (list : List Decimal)
+    → IsChecked diagram → IsShown diagram (attributes_of diagram) block b port element
+    → HasLists b.kind ((attributes_of diagram).width_at block 1)
     → (row_of b.kind).signal.lists ≡ list ∷ [] → place ≡ repeated (length list) element → place < length list
 entry_there diagram block b port element place list checked shown lists is at =
     let ports = (readable diagram block b checked shown.block_is).ports in
     let below = own_width diagram block port b.inputs b.outputs element list b.kind is ports shown.port_from shown.port_to shown.element_below in
-    elim (held (λ (l : List Decimal). (length l ≡ 1) ⊎ (length l ≡ (attributes_of diagram).width_at block 1)) (row_of b.kind).signal.lists 0 list lists (ap (λ (l : List (List Decimal)). slice_get l 0) is)) [
+    elim (held (λ (l : List Decimal). (length l ≡ 1) ⊎ (length l ≡ (attributes_of diagram).width_at block 1))
+    (row_of b.kind).signal.lists 0 list lists (ap (λ (l : List (List Decimal)). slice_get l 0) is)) [
       | inl one ↦ omega (arith, at, one, scalar one)
       | inr same ↦ omega (arith, at, same, below, wide (length list) element)
     ]
@@ -83,14 +90,19 @@ entry_there diagram block b port element place list checked shown lists is at =
     wide n e = at_most (n == 1) e
 
 -- a Delay keeps something
-pub some_delay : (diagram : Diagram) (block : ℕ) (b : Block) (delay : ℕ) (initial : List Decimal) (reset : Bool) → IsChecked diagram → slice_get diagram.blocks block ≡ Some b → b.kind ≡ Delay delay initial reset → 1 ≤ delay
+pub some_delay : (diagram : Diagram) (block : ℕ) (b : Block) (delay : ℕ) (initial : List Decimal) (reset : Bool)
+    → IsChecked diagram → slice_get diagram.blocks block ≡ Some b → b.kind ≡ Delay delay initial reset → 1 ≤ delay
 some_delay diagram block b delay initial reset checked at is = (subst (λ (k : Kind). (row_of k).parameters) is (readable diagram block b checked at).parameters).0.0
 
 -- an output port of an enabled subsystem stands in one
-pub passes_out : (net : Circuit) (site : Site) (reset : Bool) (list : List Decimal) → CanKeep net site → site.one.now.kind ≡ EnOut reset list → HasOperands net site site.one.now.kind → PassesOut net site reset list
+pub passes_out : (net : Circuit) (site : Site) (reset : Bool) (list : List Decimal) → CanKeep net site
+    → site.one.now.kind ≡ EnOut reset list → HasOperands net site site.one.now.kind → PassesOut net site reset list
 passes_out net site reset list can is has = record {
   kind = is;
-  enable = subst (λ (k : Kind). MayStand (row_of k).place.stands site.one.now.enable) is (held (λ (one : Block). MayStand (row_of one.kind).place.stands one.enable) site.design.checked.now.diagram.blocks site.place.block site.one.now can.designed.scheduled.checked.wired.enables can.shown.block_is);
+  enable = subst (λ (k : Kind). MayStand (row_of k).place.stands site.one.now.enable) is
+      (held (λ (one : Block). MayStand (row_of one.kind).place.stands one.enable)
+      site.design.checked.now.diagram.blocks site.place.block site.one.now
+      can.designed.scheduled.checked.wired.enables can.shown.block_is);
   operands = subst (HasOperands net site) is has;
 }
 
@@ -104,20 +116,26 @@ source_there diagram number edge checked at = go (slice_get diagram.blocks edge.
 
 -- ---- the types of inputs
 
-pub first_type : (diagram : Diagram) (block : ℕ) (b : Block) (types : List FxType) (default : FxType) → IsChecked diagram → slice_get diagram.blocks block ≡ Some b → b.kind ≡ EnableTest → types ≡ types_into diagram (attributes_of diagram) block b.inputs
+pub first_type : (diagram : Diagram) (block : ℕ) (b : Block) (types : List FxType) (default : FxType)
+    → IsChecked diagram → slice_get diagram.blocks block ≡ Some b → b.kind ≡ EnableTest
+    → types ≡ types_into diagram (attributes_of diagram) block b.inputs
     → slice_index_or types 0 default ≡ type_into diagram (attributes_of diagram) block 1
 first_type diagram block b types default checked at is same =
     let one : b.inputs ≡ 1 = (subst (λ (k : Kind). HasPorts k b.inputs b.outputs) is (readable diagram block b checked at).ports).0 in
     ap (λ (list : List FxType). slice_index_or list 0 default) (same ∙ ap (types_into diagram (attributes_of diagram) block) one)
 
-pub second_type : (diagram : Diagram) (block : ℕ) (b : Block) (criterion : Criterion) (threshold : List Decimal) (types : List FxType) (default : FxType) → IsChecked diagram → slice_get diagram.blocks block ≡ Some b → b.kind ≡ Switch criterion threshold
+pub second_type : (diagram : Diagram) (block : ℕ) (b : Block) (criterion : Criterion) (threshold : List Decimal)
+    (types : List FxType) (default : FxType) → IsChecked diagram → slice_get diagram.blocks block ≡ Some b
+    → b.kind ≡ Switch criterion threshold
     → types ≡ types_into diagram (attributes_of diagram) block b.inputs → slice_index_or types 1 default ≡ type_into diagram (attributes_of diagram) block 2
 second_type diagram block b criterion threshold types default checked at is same =
     let three : b.inputs ≡ 3 = (subst (λ (k : Kind). HasPorts k b.inputs b.outputs) is (readable diagram block b checked at).ports).0 in
     ap (λ (list : List FxType). slice_index_or list 1 default) (same ∙ ap (types_into diagram (attributes_of diagram) block) three)
 
 -- how many types there are
-pub three_types : (diagram : Diagram) (block : ℕ) (b : Block) (criterion : Criterion) (threshold : List Decimal) (types : List FxType) → IsChecked diagram → slice_get diagram.blocks block ≡ Some b → b.kind ≡ Switch criterion threshold
+pub three_types : (diagram : Diagram) (block : ℕ) (b : Block) (criterion : Criterion) (threshold : List Decimal)
+    (types : List FxType) → IsChecked diagram → slice_get diagram.blocks block ≡ Some b
+    → b.kind ≡ Switch criterion threshold
     → types ≡ types_into diagram (attributes_of diagram) block b.inputs → length types ≡ 3
 three_types diagram block b criterion threshold types checked at is same =
     let three : b.inputs ≡ 3 = (subst (λ (k : Kind). HasPorts k b.inputs b.outputs) is (readable diagram block b checked at).ports).0 in
@@ -142,7 +160,9 @@ shows_none diagram block b port element checked shown is =
     omega (arith, none, last, from)
 
 -- so what carries out no operation shows its elements otherwise
-pub alone : (diagram : Diagram) (block : ℕ) (b : Block) (port element : ℕ) → IsChecked diagram → IsShown diagram (attributes_of diagram) block b port element → works b.kind ≡ false → shows_alone b.kind ≡ true
+pub alone : (diagram : Diagram) (block : ℕ) (b : Block) (port element : ℕ) → IsChecked diagram
+    → IsShown diagram (attributes_of diagram) block b port element → works b.kind ≡ false
+    → shows_alone b.kind ≡ true
 alone diagram block b port element checked shown other = by b.kind refl other
   where
     by : (kind : Kind) → b.kind ≡ kind → works kind ≡ false → shows_alone kind ≡ true

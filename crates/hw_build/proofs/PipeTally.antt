@@ -55,7 +55,10 @@ stage_registers type frame slot begin (suc count) =
     let one : register_count (stage_net type frame slot (begin + count) ∷ []) ≡ 1 = refl in
     omega (arith, before, sum, one)
 
-module _ (timing : Timing) (before after : Circuit) (type : FxType) (block element period entry begin : ℕ) (adds : AddsPipeline timing before after type block element period entry begin) (word : IsWord (width_of type) (is_signed type)) (some : 0 < period) (there : entry < length before.nets) where
+module _ (timing : Timing) (before after : Circuit) (type : FxType) (block element period entry begin : ℕ)
+    (adds : AddsPipeline timing before after type block element period entry begin)
+    (word : IsWord (width_of type) (is_signed type)) (some : 0 < period)
+    (there : entry < length before.nets) where
   abbrev piped_net : Circuit
   piped_net = bare timing before after type block element period entry begin adds word some there
 
@@ -93,7 +96,10 @@ module _ (timing : Timing) (before after : Circuit) (type : FxType) (block eleme
       there_counted early =
           let e = adds.begins in
           let sum = length-append adds.counted.nets (wire_of type entry ∷ []) in
-          sym (get_front (adds.counted.nets ++ wire_of type entry ∷ []) (stage_nets type (own_frame timing period block) (period * timing.cycles - 1) begin (timing.stages block)) k (omega (arith, early, e, sum)) ∙ get_front adds.counted.nets (wire_of type entry ∷ []) k (omega (arith, early, e)))
+          sym (get_front (adds.counted.nets ++ wire_of type entry ∷ [])
+          (stage_nets type (own_frame timing period block) (period * timing.cycles - 1) begin
+          (timing.stages block)) k (omega (arith, early, e, sum))
+          ∙ get_front adds.counted.nets (wire_of type entry ∷ []) k (omega (arith, early, e)))
           ∙ at
 
       counter : k < begin → (adds.counted ≡ before) ⊎ IsCountedNet before adds.counted → (frame : Frame) × (net.kind ≡ Counter frame)
@@ -116,7 +122,10 @@ module _ (timing : Timing) (before after : Circuit) (type : FxType) (block eleme
         let new = begin_new timing before after type block element period entry begin adds word some there in
         elim (cases_lt k (length before.nets)) [
           | inl old ↦
-              let r = read_there.each k net i read (stood-there before piped_net k net (bare_appends timing before after type block element period entry begin adds word some there).extends old at) reads_it in
+              let r = read_there.each k net i read
+              (stood-there before piped_net k net
+              (bare_appends timing before after type block element period entry begin adds word some
+              there).extends old at) reads_it in
               absurd (omega (arith, r, new, low))
           | inr past ↦
               let is = bare_net k net past at in

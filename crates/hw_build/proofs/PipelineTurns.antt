@@ -57,7 +57,10 @@ there_by_connect before after hub argument is there read = record {
           | inl past ↦ let h = other (λ e. absurd (omega (arith, past, e))) in omega (arith, h, size)
           | inr equal ↦
               let e : k ≡ hub = omega (arith, more, equal) in
-              let own : ◌≡◌ {A = Net} (given is.net argument) net = same_Some (given is.net argument) net (sym (connected_here before after hub argument is) ∙ ap (slice_get after.nets) (sym e) ∙ at) in
+              let own : ◌≡◌ {A = Net} (given is.net argument) net =
+              same_Some (given is.net argument) net
+              (sym (connected_here before after hub argument is) ∙ ap (slice_get after.nets) (sym e)
+              ∙ at) in
               let reads_own : slice_get (argument ∷ []) i ≡ Some r = ap (λ (n : Net). slice_get (reads n.kind) i) own ∙ reads_it in
               let same = only_one i argument r reads_own in
               omega (arith, same, there, size)
@@ -91,12 +94,24 @@ module _ (diagram : Diagram) (timing : Timing) (fence block element period begin
         absurd (none-some counter.frame (ap (λ (n : Net). counted_frame n.kind) same ∙ counter.at.counts))
   ]
 
-  pub pipeline_by_call : (before after : Circuit) (named : List ℕ) → Appends before after named → ((read : ℕ) → Contains named read → (read < begin) ⊎ (begin + timing.stages block ≤ read)) → IsPipelineAt diagram timing fence before block element period begin → IsPipelineAt diagram timing fence after block element period begin
+  pub pipeline_by_call : (before after : Circuit) (named : List ℕ) → Appends before after named
+      → ((read : ℕ) → Contains named read → (read < begin) ⊎ (begin + timing.stages block ≤ read))
+      → IsPipelineAt diagram timing fence before block element period begin
+      → IsPipelineAt diagram timing fence after block element period begin
   pipeline_by_call before after named appends other is =
       let more = longer before after appends.extends in
       let size = is.size in
       let counts = λ (k : ℕ) (low : begin ≤ k) (high : k < begin + timing.stages block) (counter : IsCounter after.nets k).
-      no_counter before is k low high (record { frame = counter.frame; at = record { net = counter.at.net; is = stood-there before after k counter.at.net appends.extends (omega (arith, high, size)) counter.at.is; counts = counter.at.counts } })
+      no_counter before is k low high (record {
+        frame = counter.frame;
+        at =
+            record {
+              net = counter.at.net;
+              is =
+                  stood-there before after k counter.at.net appends.extends (omega (arith, high, size)) counter.at.is;
+              counts = counter.at.counts;
+            };
+      })
       in
       record {
         past = is.past;
@@ -108,7 +123,9 @@ module _ (diagram : Diagram) (timing : Timing) (fence block element period begin
         named = λ k below. subst (λ (labels : List NetLabel). Contains labels (label_at k)) (sym appends.extends.labels) (is.named k below);
       }
 
-  pub pipeline_by_names : (before after : Circuit) (names : List NetLabel) → after.nets ≡ before.nets → after.labels ≡ before.labels ++ names → IsPipelineAt diagram timing fence before block element period begin → IsPipelineAt diagram timing fence after block element period begin
+  pub pipeline_by_names : (before after : Circuit) (names : List NetLabel) → after.nets ≡ before.nets
+      → after.labels ≡ before.labels ++ names → IsPipelineAt diagram timing fence before block element period begin
+      → IsPipelineAt diagram timing fence after block element period begin
   pipeline_by_names before after names nets labels is =
       let size = is.size in
       let same : length after.nets ≡ length before.nets = ap length nets in
@@ -122,7 +139,10 @@ module _ (diagram : Diagram) (timing : Timing) (fence block element period begin
         named = λ k below. subst (λ (all : List NetLabel). Contains all (label_at k)) (sym labels) (contains_front before.labels names (label_at k) (is.named k below));
       }
 
-  pub pipeline_by_connect : (before after : Circuit) (hub argument : ℕ) (connected : IsConnected before after hub argument) → hub < fence → (argument < begin) ⊎ (begin + timing.stages block ≤ argument) → IsPipelineAt diagram timing fence before block element period begin
+  pub pipeline_by_connect : (before after : Circuit) (hub argument : ℕ)
+      (connected : IsConnected before after hub argument) → hub < fence
+      → (argument < begin) ⊎ (begin + timing.stages block ≤ argument)
+      → IsPipelineAt diagram timing fence before block element period begin
       → IsPipelineAt diagram timing fence after block element period begin
   pipeline_by_connect before after hub argument connected low other is =
       let size = is.size in

@@ -22,11 +22,23 @@ use Rattle.hw_build.proofs.ElementKinds.{made_kind}
 
 module _ (diagram : Diagram) (timing : Timing) (before after : Circuit) (block : ℕ) (b : Block) (port element : ℕ) (operands : List ℕ) (entry : Entry) where
   -- a Constant
-  pub constant_entry : (list : List Decimal) (value : ℤ) (type : FxType) → b.kind ≡ Constant list → ((port : ℕ) → type ≡ (attributes_of diagram).type_at block port) → IsType type → InRange type value → StoresEntry list element type value
-      → after ≡ with_net before (record { signed = is_signed type; width = width_of type; kind = Comb (Const value) [] }) → entry.net ≡ length before.nets → entry.multiply ≡ None → PutsEntry diagram timing before after block b port element operands entry
+  pub constant_entry : (list : List Decimal) (value : ℤ) (type : FxType) → b.kind ≡ Constant list
+      → ((port : ℕ) → type ≡ (attributes_of diagram).type_at block port) → IsType type → InRange type value
+      → StoresEntry list element type value
+      → after ≡ with_net before (record {
+        signed = is_signed type;
+        width = width_of type;
+        kind =
+            Comb (Const value) [];
+      }) → entry.net ≡ length before.nets → entry.multiply ≡ None
+      → PutsEntry diagram timing before after block b port element operands entry
   constant_entry list value type is types is_type range stored grown at none =
-      quiet_entry diagram timing before after block b port element operands entry (Constant list) 0 is (const_grows before after type value is_type range grown diagram timing block operands) (omega arith) none refl
-      (subst (λ (t : FxType). HasWord after.nets entry.net (width_of t) (is_signed t)) (types port) (const_word before after type value is_type range grown entry.net at)) (inr (omega (arith, at))) (λ e. absurd (false≢true e))
+      quiet_entry diagram timing before after block b port element operands entry (Constant list) 0 is
+      (const_grows before after type value is_type range grown diagram timing block operands)
+      (omega arith) none refl
+      (subst (λ (t : FxType). HasWord after.nets entry.net (width_of t) (is_signed t)) (types port)
+      (const_word before after type value is_type range grown entry.net at)) (inr (omega (arith, at)))
+      (λ e. absurd (false≢true e))
       (λ closed hubs places small cycles offered names first slot.
       let shows = const_shows before after type value is_type range grown closed hubs (places.entry block port element) (names.net ∙ at) small in
       made_kind diagram timing places closed hubs after block b port element (Constant list) is (record {
@@ -39,9 +51,21 @@ module _ (diagram : Diagram) (timing : Timing) (before after : Circuit) (block :
 
   -- a Ground
   pub ground_entry : (type : FxType) → b.kind ≡ Ground → ((port : ℕ) → type ≡ (attributes_of diagram).type_at block port) → IsType type → InRange type (pos 0)
-      → after ≡ with_net before (record { signed = is_signed type; width = width_of type; kind = Comb (Const (pos 0)) [] }) → entry.net ≡ length before.nets → entry.multiply ≡ None → PutsEntry diagram timing before after block b port element operands entry
+      → after ≡ with_net before (record {
+        signed = is_signed type;
+        width = width_of type;
+        kind =
+            Comb (Const (pos 0)) [];
+      }) → entry.net ≡ length before.nets → entry.multiply ≡ None
+      → PutsEntry diagram timing before after block b port element operands entry
   ground_entry type is types is_type range grown at none =
-      quiet_entry diagram timing before after block b port element operands entry Ground 0 is (const_grows before after type (pos 0) is_type range grown diagram timing block operands) (omega arith) none refl
-      (subst (λ (t : FxType). HasWord after.nets entry.net (width_of t) (is_signed t)) (types port) (const_word before after type (pos 0) is_type range grown entry.net at)) (inr (omega (arith, at))) (λ e. absurd (false≢true e))
+      quiet_entry diagram timing before after block b port element operands entry Ground 0 is
+      (const_grows before after type (pos 0) is_type range grown diagram timing block operands)
+      (omega arith) none refl
+      (subst (λ (t : FxType). HasWord after.nets entry.net (width_of t) (is_signed t)) (types port)
+      (const_word before after type (pos 0) is_type range grown entry.net at)) (inr (omega (arith, at)))
+      (λ e. absurd (false≢true e))
       (λ closed hubs places small cycles offered names first slot.
-      made_kind diagram timing places closed hubs after block b port element Ground is (const_shows before after type (pos 0) is_type range grown closed hubs (places.entry block port element) (names.net ∙ at) small))
+      made_kind diagram timing places closed hubs after block b port element Ground is
+      (const_shows before after type (pos 0) is_type range grown closed hubs (places.entry block port element)
+      (names.net ∙ at) small))

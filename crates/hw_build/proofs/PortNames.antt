@@ -27,14 +27,21 @@ given_both list (want ∷ wanted) [] more others given next = absurd given
 given_both list (want ∷ wanted) (name ∷ names) more others given next = (given.0, given_both (name ∷ list) wanted names more others given.1 next)
 
 -- to all elements of both
-pub named_both : (diagram : Diagram) (ins outs : List RootElement) (in_width out_width : ℕ → ℕ) (in_number out_number : ℕ → RootElement → ℕ) (in_latency out_latency : ℕ → ℕ) (old names new : Names) (inputs outputs : List NetPort) → AreTaken old own_names
+pub named_both : (diagram : Diagram) (ins outs : List RootElement) (in_width out_width : ℕ → ℕ)
+    (in_number out_number : ℕ → RootElement → ℕ) (in_latency out_latency : ℕ → ℕ) (old names new : Names)
+    (inputs outputs : List NetPort) → AreTaken old own_names
     → ArePortsFor diagram ins in_width in_number in_latency old names inputs (length ins) → ArePortsFor diagram outs out_width out_number out_latency names new outputs (length outs)
     → Given own_names (map (wanted_of diagram in_width) ins ++ map (wanted_of diagram out_width) outs) (map name_of (inputs ++ outputs))
 named_both diagram ins outs in_width out_width in_number out_number in_latency out_latency old names new inputs outputs are one other =
     let first = one.given own_names are in
     let second = other.given (taken_by own_names (map name_of inputs)) first.1 in
-    let in_all : take (length ins) (map (wanted_of diagram in_width) ins) ≡ map (wanted_of diagram in_width) ins = take_all (length ins) (map (wanted_of diagram in_width) ins) (let e = length-map ins (wanted_of diagram in_width) in omega (arith, e)) in
-    let out_all : take (length outs) (map (wanted_of diagram out_width) outs) ≡ map (wanted_of diagram out_width) outs = take_all (length outs) (map (wanted_of diagram out_width) outs) (let e = length-map outs (wanted_of diagram out_width) in omega (arith, e)) in
+    let in_all : take (length ins) (map (wanted_of diagram in_width) ins) ≡ map (wanted_of diagram in_width) ins =
+    take_all (length ins) (map (wanted_of diagram in_width) ins)
+    (let e = length-map ins (wanted_of diagram in_width) in omega (arith, e)) in
+    let out_all : take (length outs) (map (wanted_of diagram out_width) outs)
+    ≡ map (wanted_of diagram out_width) outs =
+    take_all (length outs) (map (wanted_of diagram out_width) outs)
+    (let e = length-map outs (wanted_of diagram out_width) in omega (arith, e)) in
     subst (Given own_names (map (wanted_of diagram in_width) ins ++ map (wanted_of diagram out_width) outs)) (sym (map-append name_of inputs outputs))
     (given_both own_names (map (wanted_of diagram in_width) ins) (map name_of inputs) (map (wanted_of diagram out_width) outs) (map name_of outputs)
     (subst (λ (ws : List (List ℕ)). Given own_names ws (map name_of inputs)) in_all first.0)
@@ -42,7 +49,12 @@ named_both diagram ins outs in_width out_width in_number out_number in_latency o
 
 -- what an element wants is a name
 pub want_is : (diagram : Diagram) (width_of : ℕ → ℕ) (e : RootElement) → e.element < 2 ^ 64 → IsWanted (wanted_of diagram width_of e)
-want_is diagram width_of e small = (element_name (undoubled false (path_of diagram e.block)) (width_of e.block) e.element, plain_element (undoubled false (path_of diagram e.block)) (width_of e.block) e.element small, refl)
+want_is diagram width_of e small = (
+  element_name (undoubled false (path_of diagram e.block))
+      (width_of e.block) e.element,
+  plain_element (undoubled false (path_of diagram e.block)) (width_of e.block) e.element small,
+  refl,
+)
 
 -- names by place
 name_at : (ports : List NetPort) (k : ℕ) (d : List ℕ) (port : NetPort) → slice_get ports k ≡ Some port → slice_index_or (map name_of ports) k d ≡ port.name
@@ -54,7 +66,9 @@ name_at ports k d port at =
 wanted_at : (wanted : List (List ℕ)) → ((k : ℕ) (want : List ℕ) → slice_get wanted k ≡ Some want → IsWanted want) → (j : ℕ) (d : List ℕ) → j < length wanted → IsWanted (slice_index_or wanted j d)
 wanted_at wanted each j d low = each j _ (slice_get-get_or wanted j d low)
 
-pub port_names : (wanted : List (List ℕ)) (ports : List NetPort) → ((k : ℕ) (want : List ℕ) → slice_get wanted k ≡ Some want → IsWanted want) → Given own_names wanted (map name_of ports) → (port : NetPort) → Contains ports port → IsPortName port.name
+pub port_names : (wanted : List (List ℕ)) (ports : List NetPort)
+    → ((k : ℕ) (want : List ℕ) → slice_get wanted k ≡ Some want → IsWanted want)
+    → Given own_names wanted (map name_of ports) → (port : NetPort) → Contains ports port → IsPortName port.name
 port_names wanted ports each given port has =
     let at : slice_get ports has.0 ≡ Some port = slice_get-get_or ports has.0 port has.1 ∙ ap (λ (p : NetPort). Some p) has.2 in
     let size = length-map ports name_of in
@@ -69,7 +83,9 @@ port_names_differ wanted ports given = λ i j d less low.
     λ same. names_differ own_names wanted (map name_of ports) given i j [] less (omega (arith, size, low)) (one ∙ same ∙ sym other)
 
 -- of two lists of elements
-pub wants_are : (diagram : Diagram) (ins outs : List RootElement) (in_width out_width : ℕ → ℕ) → ((k : ℕ) (e : RootElement) → slice_get ins k ≡ Some e → e.element < 2 ^ 64) → ((k : ℕ) (e : RootElement) → slice_get outs k ≡ Some e → e.element < 2 ^ 64)
+pub wants_are : (diagram : Diagram) (ins outs : List RootElement) (in_width out_width : ℕ → ℕ)
+    → ((k : ℕ) (e : RootElement) → slice_get ins k ≡ Some e → e.element < 2 ^ 64)
+    → ((k : ℕ) (e : RootElement) → slice_get outs k ≡ Some e → e.element < 2 ^ 64)
     → (k : ℕ) (want : List ℕ) → slice_get (map (wanted_of diagram in_width) ins ++ map (wanted_of diagram out_width) outs) k ≡ Some want → IsWanted want
 wants_are diagram [] outs in_width out_width small_in small_out k want at =
     let found = map_there (wanted_of diagram out_width) outs k want at in

@@ -31,7 +31,10 @@ use Rattle.hw_build.proofs.Growth.{later_on}
 use Rattle.hw_build.proofs.LabelMarks.{apart_are}
 use Rattle.hw_build.proofs.Totals.{total_registers, total_products}
 
-module _ (setting : Setting) (set : IsSet setting) (now : Circuit) (spots : Spots) (has : HasElements setting now spots) (ordered : IsOrdered setting.design.checked.now.diagram setting.design.checked.now.order) (roots_below : roots_of setting ≤ hubs_in_all (diagram_of setting)) where
+module _ (setting : Setting) (set : IsSet setting) (now : Circuit) (spots : Spots)
+    (has : HasElements setting now spots)
+    (ordered : IsOrdered setting.design.checked.now.diagram setting.design.checked.now.order)
+    (roots_below : roots_of setting ≤ hubs_in_all (diagram_of setting)) where
   abbrev drawn : Diagram
   drawn = setting.design.checked.now.diagram
 
@@ -50,10 +53,14 @@ module _ (setting : Setting) (set : IsSet setting) (now : Circuit) (spots : Spot
   }
 
   more : HasMoreRegisters drawn setting.design.plan.now (times_for setting.design) has.start now (registers_in_all drawn (attributes_of drawn) setting.design.plan.now)
-  more = more_goes drawn setting.design.plan.now (times_for setting.design) (roots_of setting) (hubs_in_all drawn) has.start now (registers_in_all drawn (attributes_of drawn) setting.design.plan.now) has.since
+  more = more_goes drawn setting.design.plan.now (times_for setting.design) (roots_of setting)
+      (hubs_in_all drawn) has.start now
+      (registers_in_all drawn (attributes_of drawn) setting.design.plan.now) has.since
       (let few = has.tally.registers in
       let all = total_registers drawn setting.design.plan.now set.designed.scheduled.planned.allowed setting.design.checked.now.order ordered in
-      let e : before (hub_registers drawn setting.design.plan.now) (length spots.entries) ≡ before (hub_registers drawn setting.design.plan.now) (hubs_in_all drawn) = ap (before (hub_registers drawn setting.design.plan.now)) has.size in
+      let e : before (hub_registers drawn setting.design.plan.now) (length spots.entries)
+      ≡ before (hub_registers drawn setting.design.plan.now) (hubs_in_all drawn) =
+      ap (before (hub_registers drawn setting.design.plan.now)) has.size in
       omega (arith, few, all, e))
       (λ k net frame low at counts.
       let is = has.marks.frames k frame low (record { net = net; is = at; counts = counts }) in
@@ -65,9 +72,14 @@ module _ (setting : Setting) (set : IsSet setting) (now : Circuit) (spots : Spot
       let shared_count : ℕ = length (shared_operations drawn (attributes_of drawn) setting.design.plan.now) in
       let blocks_count : ℕ = registers_in_all drawn (attributes_of drawn) setting.design.plan.now in
       let none : length has.begun.readied.start.nets ≡ 0 = ap (λ (nets : List Net). length nets) has.begun.readied.none in
-      let all = registers_then drawn setting.design.plan.now (times_for setting.design) has.begun.readied.start has.start now (lines_count + shared_count) blocks_count (omega (arith, none)) has.begun.readied.registers more in
+      let all = registers_then drawn setting.design.plan.now
+      (times_for setting.design) has.begun.readied.start has.start now (lines_count + shared_count) blocks_count
+      (omega (arith, none)) has.begun.readied.registers more in
       let sum : lines_count + shared_count + blocks_count ≡ lines_count + (blocks_count + shared_count) = omega arith in
-      few_registers drawn setting.design.plan.now (times_for setting.design) has.begun.readied.start now has.begun.readied.none has.way.differ (subst (HasMoreRegisters drawn setting.design.plan.now (times_for setting.design) has.begun.readied.start now) sum all)
+      few_registers drawn setting.design.plan.now
+      (times_for setting.design) has.begun.readied.start now has.begun.readied.none has.way.differ
+      (subst (HasMoreRegisters drawn setting.design.plan.now
+      (times_for setting.design) has.begun.readied.start now) sum all)
 
   pub filled : IsFilled drawn setting.design.plan.now (times_for setting.design) setting.firsts.now named (place_in setting.design.checked.now.order) now
   filled = record {
@@ -82,7 +94,9 @@ module _ (setting : Setting) (set : IsSet setting) (now : Circuit) (spots : Spot
         let own = has.tally.own in
         let bare = has.begun.readied.own in
         let all = total_products drawn setting.design.plan.now set.designed.scheduled.planned.allowed setting.design.checked.now.order ordered in
-        let e : before (hub_products drawn setting.design.plan.now) (length spots.entries) ≡ before (hub_products drawn setting.design.plan.now) (hubs_in_all drawn) = ap (before (hub_products drawn setting.design.plan.now)) has.size in
+        let e : before (hub_products drawn setting.design.plan.now) (length spots.entries)
+        ≡ before (hub_products drawn setting.design.plan.now) (hubs_in_all drawn) =
+        ap (before (hub_products drawn setting.design.plan.now)) has.size in
         omega (arith, own, bare, all, e);
     multiplied = multiplications_stand setting set now spots has now refl (λ label is. is) ordered;
     pipes = record { each = λ later nets labels outputs. pipelines_stand setting set now spots has later nets (λ label is. subst (λ (ls : List NetLabel). Contains ls label) (sym labels) is) outputs };

@@ -42,7 +42,10 @@ some_wide : (width own element : ℕ) → (width ≡ 1) ⊎ (width ≡ own) → 
 some_wide width own element (inl one) below = omega (arith, one)
 some_wide width own element (inr same) below = omega (arith, same, below)
 
-module _ (widths : WidthsAreOfEdges) (diagram : Diagram) (checked : IsChecked diagram) (plan : Resolved) (block : ℕ) (b : Block) (port element : ℕ) (at : slice_get diagram.blocks block ≡ Some b) (shared : is_shared diagram (attributes_of diagram) plan block ≡ true) (from : 1 ≤ port) (to : port ≤ b.inputs) (below : element < (attributes_of diagram).width_at block 1)
+module _ (widths : WidthsAreOfEdges) (diagram : Diagram) (checked : IsChecked diagram) (plan : Resolved) (block : ℕ)
+    (b : Block) (port element : ℕ) (at : slice_get diagram.blocks block ≡ Some b)
+    (shared : is_shared diagram (attributes_of diagram) plan block ≡ true) (from : 1 ≤ port)
+    (to : port ≤ b.inputs) (below : element < (attributes_of diagram).width_at block 1)
   where
     wide : 0 < width_into diagram (attributes_of diagram) block port
     wide =
@@ -70,8 +73,14 @@ module _ (widths : WidthsAreOfEdges) (diagram : Diagram) (checked : IsChecked di
 
     place_below : place < line_count diagram block b port driven.0
     place_below =
-        let source : width_into diagram (attributes_of diagram) block port ≡ (attributes_of diagram).width_at driven.0.from driven.0.from_port = ap (λ (o : Option Edge). at_source o 0 (attributes_of diagram).width_at) driven.1 in
-        let some = some_count ((attributes_of diagram).width_at driven.0.from driven.0.from_port) ((attributes_of diagram).width_at block 1) (lag_into diagram (attributes_of diagram) block b (Port port)) ((attributes_of diagram).period_at driven.0.from) (omega (arith, source, wide)) (omega (arith, below)) in
+        let source : width_into diagram (attributes_of diagram) block port
+        ≡ (attributes_of diagram).width_at driven.0.from driven.0.from_port =
+        ap (λ (o : Option Edge). at_source o 0 (attributes_of diagram).width_at) driven.1 in
+        let some = some_count ((attributes_of diagram).width_at driven.0.from driven.0.from_port)
+        ((attributes_of diagram).width_at block 1)
+        (lag_into diagram (attributes_of diagram) block b (Port port))
+        ((attributes_of diagram).period_at driven.0.from) (omega (arith, source, wide))
+        (omega (arith, below)) in
         omega (arith, some)
 
     type_is : type_into diagram (attributes_of diagram) block port ≡ (attributes_of diagram).type_at driven.0.from driven.0.from_port
@@ -81,7 +90,9 @@ module _ (widths : WidthsAreOfEdges) (diagram : Diagram) (checked : IsChecked di
       spread_at : places.offered block port element ≡ places.offered block port place
       spread_at = spread.offered block b port element driven.0 at driven.1
 
-      pub offered_word : HasWord now.nets (places.offered block port element) (width_of (type_into diagram (attributes_of diagram) block port)) (is_signed (type_into diagram (attributes_of diagram) block port))
+      pub offered_word : HasWord now.nets (places.offered block port element)
+          (width_of (type_into diagram (attributes_of diagram) block port))
+          (is_signed (type_into diagram (attributes_of diagram) block port))
       offered_word =
           let word = operands.there block b port place driven.0 at showing from to driven.1 place_below in
           let e : ◌≡◌ {A = FxType} (type_into diagram (attributes_of diagram) block port) ((attributes_of diagram).type_at driven.0.from driven.0.from_port) = type_is in
@@ -100,10 +111,14 @@ module _ (widths : WidthsAreOfEdges) (diagram : Diagram) (checked : IsChecked di
           omega (arith, low, source, same)
 
 -- so what shared operations read has its words
-pub operands_offer : WidthsAreOfEdges → (diagram : Diagram) → IsChecked diagram → (plan : Resolved) (offered : ℕ → ℕ → ℕ → ℕ) (places : Places) (place_of : ℕ → ℕ) (hubs : ℕ) (now : Circuit) (level : ℕ → ℕ) → ((block port element : ℕ) → places.offered block port element ≡ offered block port element) → AreSpread diagram places
+pub operands_offer : WidthsAreOfEdges → (diagram : Diagram) → IsChecked diagram
+    → (plan : Resolved) (offered : ℕ → ℕ → ℕ → ℕ) (places : Places) (place_of : ℕ → ℕ) (hubs : ℕ) (now : Circuit)
+    (level : ℕ → ℕ) → ((block port element : ℕ)
+    → places.offered block port element ≡ offered block port element) → AreSpread diagram places
     → HaveOperands diagram places place_of hubs now level → OffersWords diagram plan offered now
 operands_offer widths diagram checked plan offered places place_of hubs now level same spread operands = record {
   each = λ block b port element at shared from to below.
-      subst (λ (n : ℕ). HasWord now.nets n (width_of (type_into diagram (attributes_of diagram) block port)) (is_signed (type_into diagram (attributes_of diagram) block port))) (same block port element)
+      subst (λ (n : ℕ). HasWord now.nets n (width_of (type_into diagram (attributes_of diagram) block port))
+      (is_signed (type_into diagram (attributes_of diagram) block port))) (same block port element)
       (offered_word widths diagram checked plan block b port element at shared from to below places place_of hubs now level spread operands);
 }

@@ -39,15 +39,20 @@ map_more f (y ∷ xs) x = ap (λ zs. f y ∷ zs) (map_more f xs x)
 -- no port is put in yet
 pub ports_none : (diagram : Diagram) (elements : List RootElement) (width_of : ℕ → ℕ) (number_of : ℕ → RootElement → ℕ) (latency_of : ℕ → ℕ) (names : Names) (ports : List NetPort) → ports ≡ []
     → ArePortsFor diagram elements width_of number_of latency_of names names ports 0
-ports_none diagram elements width_of number_of latency_of names ports none = subst (λ (xs : List NetPort). ArePortsFor diagram elements width_of number_of latency_of names names xs 0) (sym none) (record {
-  size = refl;
-  each = λ k e port at there. absurd (none-some port there);
-  given = λ list taken. (tt, taken);
-})
+ports_none diagram elements width_of number_of latency_of names ports none =
+    subst (λ (xs : List NetPort). ArePortsFor diagram elements width_of number_of latency_of names names xs 0)
+    (sym none) (record {
+      size = refl;
+      each = λ k e port at there. absurd (none-some port there);
+      given = λ list taken. (tt, taken);
+    })
 
 module _ (diagram : Diagram) (elements : List RootElement) (width_of : ℕ → ℕ) (number_of : ℕ → RootElement → ℕ) (latency_of : ℕ → ℕ) where
-  pub ports_more : (old names new : Names) (ports : List NetPort) (k element : ℕ) (e : RootElement) (port : NetPort) → ArePortsFor diagram elements width_of number_of latency_of old names ports k → slice_get elements k ≡ Some e → element ≡ e.element → e.period ≡ (attributes_of diagram).period_at e.block
-      → IsPortOf diagram names new e.block (width_of e.block) element (number_of k e) (latency_of e.block) port → ArePortsFor diagram elements width_of number_of latency_of old new (ports ++ port ∷ []) (k + 1)
+  pub ports_more : (old names new : Names) (ports : List NetPort) (k element : ℕ) (e : RootElement) (port : NetPort)
+      → ArePortsFor diagram elements width_of number_of latency_of old names ports k → slice_get elements k ≡ Some e
+      → element ≡ e.element → e.period ≡ (attributes_of diagram).period_at e.block
+      → IsPortOf diagram names new e.block (width_of e.block) element (number_of k e) (latency_of e.block) port
+      → ArePortsFor diagram elements width_of number_of latency_of old new (ports ++ port ∷ []) (k + 1)
   ports_more old names new ports k element e port is e_at element_is period_is of = record {
     size = length-append ports (port ∷ []) ∙ omega (arith, is.size);
     each = λ j f other f_at other_at.
@@ -70,7 +75,9 @@ module _ (diagram : Diagram) (elements : List RootElement) (width_of : ℕ → �
         let next = of.named (taken_by list (map (λ (p : NetPort). p.name) ports)) so_far.1 in
         let named : map (λ (p : NetPort). p.name) (ports ++ port ∷ []) ≡ map (λ (p : NetPort). p.name) ports ++ port.name ∷ [] = map_more (λ (p : NetPort). p.name) ports port in
         let wanted : take (k + 1) (map (wanted_of diagram width_of) elements) ≡ take k (map (wanted_of diagram width_of) elements) ++ wanted_of diagram width_of e ∷ [] =
-        ap (λ (n : ℕ). take n (map (wanted_of diagram width_of) elements)) (add-one k) ∙ take_more (map (wanted_of diagram width_of) elements) k (wanted_of diagram width_of e) (there_map (wanted_of diagram width_of) elements k e e_at)
+        ap (λ (n : ℕ). take n (map (wanted_of diagram width_of) elements)) (add-one k)
+        ∙ take_more (map (wanted_of diagram width_of) elements) k (wanted_of diagram width_of e)
+        (there_map (wanted_of diagram width_of) elements k e e_at)
         in
         let given : IsGiven (taken_by list (map (λ (p : NetPort). p.name) ports)) (wanted_of diagram width_of e) port.name =
         subst (λ (n : ℕ). IsGiven (taken_by list (map (λ (p : NetPort). p.name) ports)) (wanted_of diagram width_of (record e { element = n })) port.name) element_is next.0
@@ -83,27 +90,46 @@ module _ (diagram : Diagram) (elements : List RootElement) (width_of : ℕ → �
   }
 
 -- an input port more
-pub input_ports_more : (diagram : Diagram) (old names new : Names) (earlier now later : Circuit) (k element : ℕ) (e : RootElement) (port : NetPort) → AddsInputPorts diagram old names earlier now k → slice_get (root_inputs diagram (attributes_of diagram)) k ≡ Some e → element ≡ e.element → e.period ≡ (attributes_of diagram).period_at e.block
-    → IsPortOf diagram names new e.block ((attributes_of diagram).width_at e.block 1) element k 0 port → later ≡ record now { inputs = now.inputs ++ port ∷ [] } → AddsInputPorts diagram old new earlier later (k + 1)
+pub input_ports_more : (diagram : Diagram) (old names new : Names) (earlier now later : Circuit) (k element : ℕ)
+    (e : RootElement) (port : NetPort) → AddsInputPorts diagram old names earlier now k
+    → slice_get (root_inputs diagram (attributes_of diagram)) k ≡ Some e → element ≡ e.element
+    → e.period ≡ (attributes_of diagram).period_at e.block
+    → IsPortOf diagram names new e.block ((attributes_of diagram).width_at e.block 1) element k 0 port
+    → later ≡ record now { inputs = now.inputs ++ port ∷ [] }
+    → AddsInputPorts diagram old new earlier later (k + 1)
 input_ports_more diagram old names new earlier now later k element e port is e_at element_is period_is of grown =
     let inputs : later.inputs ≡ now.inputs ++ port ∷ [] = ap (λ (c : Circuit). c.inputs) grown in
     record {
       grown = grown ∙ ap (λ (c : Circuit). record c { inputs = now.inputs ++ port ∷ [] }) is.grown ∙ ap (λ (ports : List NetPort). record earlier { inputs = ports }) (sym inputs);
-      ports = subst (λ (ports : List NetPort). ArePortsFor diagram (root_inputs diagram (attributes_of diagram)) (λ block. (attributes_of diagram).width_at block 1) (λ k e. k) (λ block. 0) old new ports (k + 1)) (sym inputs)
-          (ports_more diagram (root_inputs diagram (attributes_of diagram)) (λ block. (attributes_of diagram).width_at block 1) (λ k e. k) (λ block. 0) old names new now.inputs k element e port is.ports e_at element_is period_is of);
+      ports = subst (λ (ports : List NetPort). ArePortsFor diagram (root_inputs diagram (attributes_of diagram))
+          (λ block. (attributes_of diagram).width_at block 1) (λ k e. k) (λ block. 0) old new ports (k + 1))
+          (sym inputs)
+          (ports_more diagram (root_inputs diagram (attributes_of diagram))
+          (λ block. (attributes_of diagram).width_at block 1) (λ k e. k)
+          (λ block. 0) old names new now.inputs k element e port is.ports e_at element_is period_is of);
     }
 
 -- an output port more
-pub output_ports_more : (diagram : Diagram) (plan : Resolved) (times : Times) (firsts : List (List ℕ)) (old names new : Names) (earlier now later : Circuit) (k element : ℕ) (e : RootElement) (port : NetPort) → AddsOutputPorts diagram plan times firsts old names earlier now k
+pub output_ports_more : (diagram : Diagram) (plan : Resolved) (times : Times) (firsts : List (List ℕ))
+    (old names new : Names) (earlier now later : Circuit) (k element : ℕ) (e : RootElement) (port : NetPort)
+    → AddsOutputPorts diagram plan times firsts old names earlier now k
     → slice_get (root_outputs diagram (attributes_of diagram)) k ≡ Some e → element ≡ e.element → e.period ≡ (attributes_of diagram).period_at e.block
-    → IsPortOf diagram names new e.block (width_into diagram (attributes_of diagram) e.block 1) element (hub_at firsts e.block 1 e.element) (declared_latency diagram (attributes_of diagram) plan times e.block) port → later ≡ record now { outputs = now.outputs ++ port ∷ [] }
+    → IsPortOf diagram names new e.block (width_into diagram (attributes_of diagram) e.block 1) element
+    (hub_at firsts e.block 1 e.element) (declared_latency diagram (attributes_of diagram) plan times e.block)
+    port → later ≡ record now { outputs = now.outputs ++ port ∷ [] }
     → AddsOutputPorts diagram plan times firsts old new earlier later (k + 1)
 output_ports_more diagram plan times firsts old names new earlier now later k element e port is e_at element_is period_is of grown =
     let outputs : later.outputs ≡ now.outputs ++ port ∷ [] = ap (λ (c : Circuit). c.outputs) grown in
     record {
       grown = grown ∙ ap (λ (c : Circuit). record c { outputs = now.outputs ++ port ∷ [] }) is.grown ∙ ap (λ (ports : List NetPort). record earlier { outputs = ports }) (sym outputs);
-      ports = subst (λ (ports : List NetPort). ArePortsFor diagram (root_outputs diagram (attributes_of diagram)) (λ block. width_into diagram (attributes_of diagram) block 1) (λ k e. hub_at firsts e.block 1 e.element) (declared_latency diagram (attributes_of diagram) plan times) old new ports (k + 1)) (sym outputs)
-          (ports_more diagram (root_outputs diagram (attributes_of diagram)) (λ block. width_into diagram (attributes_of diagram) block 1) (λ k e. hub_at firsts e.block 1 e.element) (declared_latency diagram (attributes_of diagram) plan times) old names new now.outputs k element e port is.ports e_at element_is period_is of);
+      ports = subst (λ (ports : List NetPort). ArePortsFor diagram (root_outputs diagram (attributes_of diagram))
+          (λ block. width_into diagram (attributes_of diagram) block 1) (λ k e. hub_at firsts e.block 1 e.element)
+          (declared_latency diagram (attributes_of diagram) plan times) old new ports (k + 1)) (sym outputs)
+          (ports_more diagram (root_outputs diagram (attributes_of diagram))
+          (λ block. width_into diagram (attributes_of diagram) block 1)
+          (λ k e. hub_at firsts e.block 1 e.element)
+          (declared_latency diagram (attributes_of diagram) plan times) old names new now.outputs k
+          element e port is.ports e_at element_is period_is of);
     }
 
 -- the root element of a column, by the blocks of all
@@ -114,26 +140,38 @@ pub record AtColumn (diagram : Diagram) (elements : List RootElement) (blocks : 
   pub there : e.block < length diagram.blocks
   pub period_is : e.period ≡ (attributes_of diagram).period_at e.block
 
-element_at : (number_of : Role → Option ℕ) (width_of : ℕ → ℕ) (diagram : Diagram) (elements : List RootElement) (blocks : List ℕ) (k : ℕ) → AreRootElements number_of width_of diagram (attributes_of diagram) elements → AreBlocksOf elements blocks → k < length blocks → AtColumn diagram elements blocks k
+element_at : (number_of : Role → Option ℕ) (width_of : ℕ → ℕ) (diagram : Diagram) (elements : List RootElement)
+    (blocks : List ℕ) (k : ℕ) → AreRootElements number_of width_of diagram (attributes_of diagram) elements
+    → AreBlocksOf elements blocks → k < length blocks → AtColumn diagram elements blocks k
 element_at number_of width_of diagram elements blocks k all are below =
     let found = map_there (λ (x : RootElement). x.block) elements k (slice_index_or blocks k 0) (sym (ap (λ (xs : List ℕ). slice_get xs k) are) ∙ slice_get-get_or blocks k 0 below) in
     let of = all.elements_of k found.0 found.1 in
     record { e = found.0; at = found.1; block_is = found.2; there = slice_get_within diagram.blocks found.0.block of.0 of.1; period_is = ap (λ (x : RootElement). x.period) of.4 }
 
-pub column_of : (diagram : Diagram) (inputs : List ℕ) (k : ℕ) → IsChecked diagram → InputsAreListed → AreBlocksOf (root_inputs diagram (attributes_of diagram)) inputs → k < length inputs → AtColumn diagram (root_inputs diagram (attributes_of diagram)) inputs k
+pub column_of : (diagram : Diagram) (inputs : List ℕ) (k : ℕ) → IsChecked diagram → InputsAreListed
+    → AreBlocksOf (root_inputs diagram (attributes_of diagram)) inputs → k < length inputs
+    → AtColumn diagram (root_inputs diagram (attributes_of diagram)) inputs k
 column_of diagram inputs k checked listed are below = element_at _ _ diagram (root_inputs diagram (attributes_of diagram)) inputs k (listed diagram (attributes_of diagram) checked.wired) are below
 
-pub output_of : (diagram : Diagram) (outputs : List ℕ) (k : ℕ) → IsChecked diagram → OutputsAreListed → AreBlocksOf (root_outputs diagram (attributes_of diagram)) outputs → k < length outputs → AtColumn diagram (root_outputs diagram (attributes_of diagram)) outputs k
+pub output_of : (diagram : Diagram) (outputs : List ℕ) (k : ℕ) → IsChecked diagram → OutputsAreListed
+    → AreBlocksOf (root_outputs diagram (attributes_of diagram)) outputs → k < length outputs
+    → AtColumn diagram (root_outputs diagram (attributes_of diagram)) outputs k
 output_of diagram outputs k checked listed are below = element_at _ _ diagram (root_outputs diagram (attributes_of diagram)) outputs k (listed diagram (attributes_of diagram) checked.wired) are below
 
 -- their blocks are there
-pub outputs_there : (diagram : Diagram) (outputs : List ℕ) → IsChecked diagram → OutputsAreListed → AreBlocksOf (root_outputs diagram (attributes_of diagram)) outputs → All (λ block. block < length diagram.blocks) outputs
+pub outputs_there : (diagram : Diagram) (outputs : List ℕ) → IsChecked diagram → OutputsAreListed
+    → AreBlocksOf (root_outputs diagram (attributes_of diagram)) outputs
+    → All (λ block. block < length diagram.blocks) outputs
 outputs_there diagram outputs checked listed are = λ k d within.
     let column = output_of diagram outputs k checked listed are within in
     let same : slice_index_or outputs k 0 ≡ get_or outputs k d = same_Some _ _ (sym (slice_get-get_or outputs k 0 within) ∙ slice_get-get_or outputs k d within) in
     subst (λ (block : ℕ). block < length diagram.blocks) (column.block_is ∙ same) column.there
 
 -- and their first columns tell where their elements are
-pub output_column : (diagram : Diagram) (outputs columns : List ℕ) (k : ℕ) (e : RootElement) → IsChecked diagram → OutputsAreListed → AreBlocksOf (root_outputs diagram (attributes_of diagram)) outputs → AreColumnsFrom outputs columns 0 → slice_get (root_outputs diagram (attributes_of diagram)) k ≡ Some e
+pub output_column : (diagram : Diagram) (outputs columns : List ℕ) (k : ℕ) (e : RootElement) → IsChecked diagram
+    → OutputsAreListed → AreBlocksOf (root_outputs diagram (attributes_of diagram)) outputs
+    → AreColumnsFrom outputs columns 0 → slice_get (root_outputs diagram (attributes_of diagram)) k ≡ Some e
     → slice_index_or columns e.block 0 + e.element ≡ k
-output_column diagram outputs columns k e checked listed are columns_are at = place_is root_output (λ block. width_into diagram (attributes_of diagram) block 1) diagram (listed diagram (attributes_of diagram) checked.wired) outputs columns k e are columns_are at
+output_column diagram outputs columns k e checked listed are columns_are at =
+    place_is root_output (λ block. width_into diagram (attributes_of diagram) block 1) diagram
+    (listed diagram (attributes_of diagram) checked.wired) outputs columns k e are columns_are at

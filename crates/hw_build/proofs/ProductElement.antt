@@ -41,7 +41,10 @@ use Rattle.hw_build.proofs.Levels.{result_level}
 use Rattle.hw_build.proofs.MultiplierStep.{same_listed}
 use Rattle.hw_build.proofs.ProductNets.{gain_product, product_later, times_product}
 
-module _ (setting : Setting) (known : IsKnown setting) (before : Circuit) (going : Stands setting before) (block : ℕ) (b : Block) (port element : ℕ) (shown : IsShown setting.design.checked.now.diagram (attributes_of setting.design.checked.now.diagram) block b port element)
+module _ (setting : Setting) (known : IsKnown setting) (before : Circuit) (going : Stands setting before)
+    (block : ℕ) (b : Block) (port element : ℕ)
+    (shown : IsShown setting.design.checked.now.diagram
+    (attributes_of setting.design.checked.now.diagram) block b port element)
     (product : ℕ) (told : product_at setting.products.now block element ≡ Some product) where
   abbrev own_drawn : Diagram
   own_drawn = setting.design.checked.now.diagram
@@ -65,16 +68,24 @@ module _ (setting : Setting) (known : IsKnown setting) (before : Circuit) (going
   roots = length (root_inputs own_drawn (attributes_of own_drawn))
 
   -- the product is in the word of its type
-  pub product_word : FullProductIsOne → (full : FxType) → IsFullProduct (type_into own_drawn (attributes_of own_drawn) block 1) (right_of own_drawn (attributes_of own_drawn) block (Some b)) full → HasWord before.nets product (width_of full) (is_signed full)
+  pub product_word : FullProductIsOne → (full : FxType)
+      → IsFullProduct (type_into own_drawn (attributes_of own_drawn) block 1)
+      (right_of own_drawn (attributes_of own_drawn) block (Some b)) full
+      → HasWord before.nets product (width_of full) (is_signed full)
   product_word law full is =
       let places = places_now setting known before going block b port element shown in
       let fits = fit_now setting known before going block b port element shown in
       let g = (going_now setting known before going block b port element shown).1 in
-      let has = product_later own_drawn setting.design.plan.now (times_for setting.design) places roots _ (hubs_in_all own_drawn) going.going.start before block b element g.on g.since ((going.going.begun.each places fits).products.each block b element shown.block_is is_shared_one wide_enough) in
+      let has = product_later own_drawn setting.design.plan.now (times_for setting.design) places roots _
+      (hubs_in_all own_drawn) going.going.start before block b element g.on g.since
+      ((going.going.begun.each places fits).products.each block b element shown.block_is is_shared_one
+      wide_enough) in
       let left : FxType = type_into own_drawn (attributes_of own_drawn) block 1 in
       let right : FxType = right_of own_drawn (attributes_of own_drawn) block (Some b) in
       let same : has.full ≡ full = same_Some has.full full (sym ((law left right has.full).0 has.is_full) ∙ (law left right full).0 is) in
-      subst (λ (n : ℕ). HasWord before.nets n (width_of full) (is_signed full)) (product_named places fits) (subst (λ (t : FxType). HasWord before.nets (places.product block element) (width_of t) (is_signed t)) same has.word)
+      subst (λ (n : ℕ). HasWord before.nets n (width_of full) (is_signed full)) (product_named places fits)
+      (subst (λ (t : FxType). HasWord before.nets (places.product block element) (width_of t) (is_signed t))
+      same has.word)
 
   stood : (start : Circuit) → IsBegun setting start → product < length start.nets
   stood start begun =
@@ -83,9 +94,17 @@ module _ (setting : Setting) (known : IsKnown setting) (before : Circuit) (going
       subst (λ (n : ℕ). n < length start.nets) (product_named (places_now setting known before going block b port element shown) fits) (slice_get_within start.nets _ has.word.net has.word.is)
 
   -- it shows what the kind asks for
-  has_as : (places : Places) (closed : ℕ) (has : HasIt places closed before) (kind : Kind) → b.kind ≡ kind → (row_of kind).hardware.multiplies ≡ true → HasProductAs own_drawn (timing_for setting.design) places closed (hubs_in_all own_drawn) before block element has.slot kind
-  has_as places closed has (Gain value param) is multiplies = gain_product own_drawn setting.design.plan.now (times_for setting.design) places closed (hubs_in_all own_drawn) before block b element has value param (ap (λ (k : Kind). (row_of k).types.full) is)
-  has_as places closed has Product is multiplies = times_product own_drawn setting.design.plan.now (times_for setting.design) places closed (hubs_in_all own_drawn) before block b element has (ap (λ (k : Kind). (row_of k).types.full) is)
+  has_as : (places : Places) (closed : ℕ) (has : HasIt places closed before) (kind : Kind) → b.kind ≡ kind
+      → (row_of kind).hardware.multiplies ≡ true
+      → HasProductAs own_drawn (timing_for setting.design) places closed
+      (hubs_in_all own_drawn) before block element has.slot kind
+  has_as places closed has (Gain value param) is multiplies =
+      gain_product own_drawn setting.design.plan.now (times_for setting.design) places closed
+      (hubs_in_all own_drawn) before block b element has value param
+      (ap (λ (k : Kind). (row_of k).types.full) is)
+  has_as places closed has Product is multiplies =
+      times_product own_drawn setting.design.plan.now (times_for setting.design) places closed
+      (hubs_in_all own_drawn) before block b element has (ap (λ (k : Kind). (row_of k).types.full) is)
   has_as places closed has _ is multiplies = absurd (false≢true multiplies)
 
   module _ (after : Circuit) (entry : Entry) (puts : PutsShared own_drawn (timing_for setting.design) before after block b port element product entry) where
@@ -106,14 +125,20 @@ module _ (setting : Setting) (known : IsKnown setting) (before : Circuit) (going
       stands = puts.stands;
       few = let count = puts.grows.registers in omega (arith, count);
       own = let sum = own_next before after puts.grows.appends.extends None puts.multiplies (λ k e. absurd (none-some k e)) in let none = none_own in omega (arith, sum, none);
-      shared = same_listed unit_factors before after puts.grows.appends.extends (λ k net past there. part_units own_drawn (timing_for setting.design) block net.kind (puts.grows.parts k net past there));
+      shared = same_listed unit_factors before after puts.grows.appends.extends
+          (λ k net past there. part_units own_drawn (timing_for setting.design) block net.kind
+          (puts.grows.parts k net past there));
       new_product = λ k e. absurd (none-some k (sym puts.multiply ∙ e));
       product = λ owns. let none = none_own in absurd (omega (arith, none, owns));
       own_number = λ m e. absurd (none-some m (sym puts.multiply ∙ e));
-      own_frames = λ k frame past there. part_frame setting block (slice_get_within own_drawn.blocks block b shown.block_is) there.net.kind frame (puts.grows.parts k there.net past there.is) there.counts;
+      own_frames = λ k frame past there. part_frame setting block
+          (slice_get_within own_drawn.blocks block b shown.block_is) there.net.kind frame
+          (puts.grows.parts k there.net past there.is) there.counts;
       word = puts.word;
       each = λ places start closed level fits named products is.
-          let has = product_later own_drawn setting.design.plan.now (times_for setting.design) places roots closed (hubs_in_all own_drawn) start before block b element is.on is.since (products.each block b element shown.block_is is_shared_one wide_enough) in
+          let has = product_later own_drawn setting.design.plan.now (times_for setting.design) places roots closed
+          (hubs_in_all own_drawn) start before block b element is.on is.since
+          (products.each block b element shown.block_is is_shared_one wide_enough) in
           let stands = is.low block b element has.slot shown.block_is wide_enough has.told in
           let low : (read : ℕ) → Contains (product ∷ []) read → (read < length before.nets) × (level read ≤ top) =
           λ read among.
@@ -123,7 +148,10 @@ module _ (setting : Setting) (known : IsKnown setting) (before : Circuit) (going
           (subst (λ (n : ℕ). n < length before.nets) same stands.0, omega (arith, e, zero)) in
           record {
             next = level_behind before after level top;
-            going = going_by_call own_drawn (timing_for setting.design) places (rank setting known before going block b port element shown) (hubs_in_all own_drawn) roots start closed top before after level (product ∷ []) is puts.grows.appends (omega arith) low;
+            going = going_by_call own_drawn (timing_for setting.design) places
+                (rank setting known before going block b port element shown)
+                (hubs_in_all own_drawn) roots start closed top before after level
+                (product ∷ []) is puts.grows.appends (omega arith) low;
             low = result_level before after level top entry.net (product ∷ []) low puts.stands;
             made = puts.made closed (hubs_in_all own_drawn) places has.slot is.way.hubs_are.there has.told named.net (product_named places fits) (has_as places closed has b.kind refl multiplying);
           };

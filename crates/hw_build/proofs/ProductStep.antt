@@ -58,8 +58,12 @@ no_member : (read : ℕ) → Contains [] read → ⊥
 no_member read names = let below = names.1 in omega (arith, below)
 
 module _ (storing : StoringGivesOne) (prepare : OperationsPrepare) (valid : TypesAreValid) (periods : OperationsHavePeriods) (there : UnitsAreThere) (used : UnitsAreUsed) (widths : WidthsAreOfEdges)
-    (diagram : Diagram) (order : List ℕ) (ordered : IsOrdered diagram order) (plan : Resolved) (times : Times) (offered : ℕ → ℕ → ℕ → ℕ) (before mid after : Circuit) (words : OffersWords diagram plan offered before)
-    (operations : List Asked) (products : Products) (gathered : GathersMore diagram plan times offered before mid [] operations 0 (first_operation diagram plan (length diagram.blocks))) (firsts : AreFirsts diagram plan products.firsts.items (length diagram.blocks))
+    (diagram : Diagram) (order : List ℕ) (ordered : IsOrdered diagram order) (plan : Resolved) (times : Times)
+    (offered : ℕ → ℕ → ℕ → ℕ) (before mid after : Circuit) (words : OffersWords diagram plan offered before)
+    (operations : List Asked) (products : Products)
+    (gathered : GathersMore diagram plan times offered before mid [] operations 0
+    (first_operation diagram plan (length diagram.blocks)))
+    (firsts : AreFirsts diagram plan products.firsts.items (length diagram.blocks))
     (shared : AreShared mid after operations products.results) (cycles : before.cycles ≡ plan.cycles)
   where
     mid_cycles : mid.cycles ≡ plan.cycles
@@ -72,8 +76,12 @@ module _ (storing : StoringGivesOne) (prepare : OperationsPrepare) (valid : Type
     all_products = are_products diagram plan products firsts (shared.count ∙ count)
 
     -- an operation of a place
-    numbered_at : (k : ℕ) (one : Asked) → slice_get operations k ≡ Some one → IsOperation diagram (attributes_of diagram) plan k (slice_index_or (shared_operations diagram (attributes_of diagram) plan) k (operation 0 0))
-    numbered_at k one at = let inside = slice_get_within operations k one at in slice_get-get_or (shared_operations diagram (attributes_of diagram) plan) k (operation 0 0) (omega (arith, inside, count))
+    numbered_at : (k : ℕ) (one : Asked) → slice_get operations k ≡ Some one
+        → IsOperation diagram (attributes_of diagram) plan k
+        (slice_index_or (shared_operations diagram (attributes_of diagram) plan) k (operation 0 0))
+    numbered_at k one at = let inside = slice_get_within operations k one at in
+        slice_get-get_or (shared_operations diagram (attributes_of diagram) plan) k (operation 0 0)
+        (omega (arith, inside, count))
 
     abbrev o_at : ℕ → Operation
     o_at k = slice_index_or (shared_operations diagram (attributes_of diagram) plan) k (operation 0 0)
@@ -96,7 +104,9 @@ module _ (storing : StoringGivesOne) (prepare : OperationsPrepare) (valid : Type
         }
 
     units_are : HasNoUnits before → AreUnitsFrom after.nets shared.first (unit_count operations)
-    units_are none = units_from mid after (operands_of operations) shared.first (unit_count operations) shared.appends (no_units_mid before mid after operations products.results gathered.adds shared none) shared.units
+    units_are none = units_from mid after (operands_of operations) shared.first
+        (unit_count operations) shared.appends
+        (no_units_mid before mid after operations products.results gathered.adds shared none) shared.units
 
     units_in_list : HasNoUnits before → length (multipliers after) ≡ units_in_all diagram (attributes_of diagram) plan times
     units_in_list none =
@@ -104,7 +114,9 @@ module _ (storing : StoringGivesOne) (prepare : OperationsPrepare) (valid : Type
         (λ k net behind at. let new = shared.units.new in none_behind before mid after operations products.results gathered.adds shared k net (omega (arith, new, behind)) behind at)
         ∙ units_are_all there used diagram plan times operations (record { size = count; units = λ number o one is at. (gathered.each number o one (omega arith) is at).unit })
 
-    module _ (places : Places) (place_of : ℕ → ℕ) (closed hubs : ℕ) (level : ℕ → ℕ) (blocks : ℕ) (placed : ArePlacedBy offered products places) (below_all : ArePlacesBelow diagram place_of) (few : length before.inputs ≤ length (root_inputs diagram (attributes_of diagram)))
+    module _ (places : Places) (place_of : ℕ → ℕ) (closed hubs : ℕ) (level : ℕ → ℕ) (blocks : ℕ)
+        (placed : ArePlacedBy offered products places) (below_all : ArePlacesBelow diagram place_of)
+        (few : length before.inputs ≤ length (root_inputs diagram (attributes_of diagram)))
         (way : IsUnderWay diagram (timing_by diagram plan times) places place_of closed hubs before level blocks)
       where
         abbrev own : ℕ
@@ -123,12 +135,19 @@ module _ (storing : StoringGivesOne) (prepare : OperationsPrepare) (valid : Type
             (λ read names. absurd (no_member read names))
 
         -- what an operation reads is there, on a level below that of multipliers
-        port_low : (k : ℕ) (one : Asked) (b : Block) (port number : ℕ) → slice_get operations k ≡ Some one → slice_get diagram.blocks (o_at k).block ≡ Some b → 1 ≤ port → port ≤ b.inputs → number ≡ offered (o_at k).block port (o_at k).element → (number < length mid.nets) × (early number ≤ own)
+        port_low : (k : ℕ) (one : Asked) (b : Block) (port number : ℕ) → slice_get operations k ≡ Some one
+            → slice_get diagram.blocks (o_at k).block ≡ Some b → 1 ≤ port → port ≤ b.inputs
+            → number ≡ offered (o_at k).block port (o_at k).element
+            → (number < length mid.nets) × (early number ≤ own)
         port_low k one b port number at block from to is =
             let of = of_shared diagram (attributes_of diagram) plan k (o_at k) (numbered_at k one at) in
             let same : number ≡ places.offered (o_at k).block port (o_at k).element = is ∙ sym (placed.offered_is (o_at k).block port (o_at k).element) in
-            let word = offered_word widths diagram ordered.checked plan (o_at k).block b port (o_at k).element block of.shared from to of.element places place_of hubs before level way.facts.spread way.operands in
-            let low = offered_low widths diagram ordered.checked plan (o_at k).block b port (o_at k).element block of.shared from to of.element places place_of hubs before level way.facts.spread way.operands below_all in
+            let word = offered_word widths diagram ordered.checked plan (o_at k).block b port
+            (o_at k).element block of.shared from to of.element places place_of hubs before level
+            way.facts.spread way.operands in
+            let low = offered_low widths diagram ordered.checked plan (o_at k).block b port
+            (o_at k).element block of.shared from to of.element places place_of hubs before level
+            way.facts.spread way.operands below_all in
             let inside = slice_get_within before.nets (places.offered (o_at k).block port (o_at k).element) word.net word.is in
             let stays = level_stays before mid level 1 (places.offered (o_at k).block port (o_at k).element) inside in
             let more = longer before mid gathered.adds.appends.extends in
@@ -143,9 +162,15 @@ module _ (storing : StoringGivesOne) (prepare : OperationsPrepare) (valid : Type
             let is = numbered_at k one at in
             let of = of_shared diagram (attributes_of diagram) plan k (o_at k) is in
             let b = get_some diagram.blocks (o_at k).block of.there in
-            port_low k one b.0 1 one.left at b.1 (omega arith) (multiplies_input b.0.kind b.0.inputs b.0.outputs (ports_at k b.0 b.1) (shared_multiplies diagram plan (o_at k).block b.0 b.1 of.shared)) (gathered.each k (o_at k) one (omega arith) is at).left
+            port_low k one b.0 1 one.left at b.1 (omega arith)
+            (multiplies_input b.0.kind b.0.inputs b.0.outputs (ports_at k b.0 b.1)
+            (shared_multiplies diagram plan (o_at k).block b.0 b.1 of.shared))
+            (gathered.each k (o_at k) one (omega arith) is at).left
 
-        second_low : (k : ℕ) (one : Asked) (b : Block) → slice_get operations k ≡ Some one → slice_get diagram.blocks (o_at k).block ≡ Some b → (rule : FullRule) → (is_product rule ≡ true → 2 ≤ b.inputs) → IsSecond diagram offered before mid (o_at k).block (o_at k).element rule one.right
+        second_low : (k : ℕ) (one : Asked) (b : Block) → slice_get operations k ≡ Some one
+            → slice_get diagram.blocks (o_at k).block ≡ Some b → (rule : FullRule)
+            → (is_product rule ≡ true → 2 ≤ b.inputs)
+            → IsSecond diagram offered before mid (o_at k).block (o_at k).element rule one.right
             → (one.right < length mid.nets) × (early one.right ≤ own)
         second_low k one b at block FullRule.NoFull two second = absurd second
         second_low k one b at block (FullRule.FullSum negative accum) two second = absurd second
@@ -161,7 +186,9 @@ module _ (storing : StoringGivesOne) (prepare : OperationsPrepare) (valid : Type
             let is = numbered_at k one at in
             let of = of_shared diagram (attributes_of diagram) plan k (o_at k) is in
             let b = get_some diagram.blocks (o_at k).block of.there in
-            second_low k one b.0 at b.1 (row_of b.0.kind).types.full (product_inputs b.0.kind b.0.inputs b.0.outputs (ports_at k b.0 b.1)) ((gathered.each k (o_at k) one (omega arith) is at).right b.0 b.1)
+            second_low k one b.0 at b.1 (row_of b.0.kind).types.full
+            (product_inputs b.0.kind b.0.inputs b.0.outputs (ports_at k b.0 b.1))
+            ((gathered.each k (o_at k) one (omega arith) is at).right b.0 b.1)
 
         IsLow : ℕ → Type 0
         IsLow read = (read < length mid.nets) × (early read ≤ own)
@@ -172,7 +199,8 @@ module _ (storing : StoringGivesOne) (prepare : OperationsPrepare) (valid : Type
             let of = operand_of operations names.0 read at in
             elim of.3 [
               | inl left ↦ let low = left_low of.0 of.1 of.2 in let e : early read ≡ early of.1.left = ap early left in let a = low.0 in let b = low.1 in (omega (arith, left, a), omega (arith, e, b))
-              | inr right ↦ let low = right_low of.0 of.1 of.2 in let e : early read ≡ early of.1.right = ap early right in let a = low.0 in let b = low.1 in (omega (arith, right, a), omega (arith, e, b))
+              | inr right ↦ let low = right_low of.0 of.1 of.2 in let e : early read ≡ early of.1.right =
+                  ap early right in let a = low.0 in let b = low.1 in (omega (arith, right, a), omega (arith, e, b))
             ]
 
         abbrev late : ℕ → ℕ
@@ -181,21 +209,30 @@ module _ (storing : StoringGivesOne) (prepare : OperationsPrepare) (valid : Type
         way_after : IsUnderWay diagram (timing_by diagram plan times) places place_of closed hubs after late blocks
         way_after =
             by_call diagram (timing_by diagram plan times) places place_of hubs closed blocks own mid after early (operands_of operations) way_mid shared.appends
-            (subst (λ (ports : List NetPort). length ports ≤ length (root_inputs diagram (attributes_of diagram))) (sym (shared.appends.extends.inputs ∙ gathered.adds.appends.extends.inputs)) few) (omega arith) named_low
+            (subst (λ (ports : List NetPort). length ports ≤ length (root_inputs diagram (attributes_of diagram)))
+            (sym (shared.appends.extends.inputs ∙ gathered.adds.appends.extends.inputs)) few)
+            (omega arith) named_low
 
         late_same : (k : ℕ) → k < length before.nets → late k ≡ level k
         late_same k inside = let more = longer before mid gathered.adds.appends.extends in level_stays mid after early own k (omega (arith, inside, more)) ∙ level_stays before mid level 1 k inside
 
-        product_low : (block : ℕ) (b : Block) (element : ℕ) → slice_get diagram.blocks block ≡ Some b → is_shared diagram (attributes_of diagram) plan block ≡ true → element < (attributes_of diagram).width_at block 1 → late (places.product block element) ≡ 0
+        product_low : (block : ℕ) (b : Block) (element : ℕ) → slice_get diagram.blocks block ≡ Some b
+            → is_shared diagram (attributes_of diagram) plan block ≡ true
+            → element < (attributes_of diagram).width_at block 1 → late (places.product block element) ≡ 0
         product_low block b element at is below =
             let inside = slice_get_within diagram.blocks block b at in
             let number = operation_there diagram plan block element inside is below in
             let result = result_there diagram plan products firsts block element (shared.count ∙ count) inside is below in
-            let served = served_at storing prepare valid periods diagram order ordered plan times offered before mid after words operations products gathered shared mid_cycles (first_operation diagram plan block + element) (operation block element) (product_net products block element) number result in
+            let served = served_at storing prepare valid periods diagram order ordered plan times offered before mid
+            after words operations products gathered shared mid_cycles
+            (first_operation diagram plan block + element) (operation block element)
+            (product_net products block element) number result in
             ap late (placed.product_is block element) ∙ register_level mid after early own (product_net products block element) served.holds
 
         -- the multiplier of an operation
-        module _ (none : HasNoUnits before) (number : ℕ) (o : Operation) (b : Block) (is : IsOperation diagram (attributes_of diagram) plan number o) (at : slice_get diagram.blocks o.block ≡ Some b) where
+        module _ (none : HasNoUnits before) (number : ℕ) (o : Operation) (b : Block)
+            (is : IsOperation diagram (attributes_of diagram) plan number o)
+            (at : slice_get diagram.blocks o.block ≡ Some b) where
           abbrev one : Asked
           one = slice_index_or operations number no_asked
 
@@ -212,25 +249,45 @@ module _ (storing : StoringGivesOne) (prepare : OperationsPrepare) (valid : Type
               shared.served number one result one_at (slice_get-get_or products.results number 0 (omega (arith, inside, size)))
 
           asked : (period : ℕ) → (attributes_of diagram).period_at o.block ≡ Some period → IsAskedFor diagram plan times places number o one period
-          asked period moves = asked_for storing prepare valid periods diagram order ordered plan times offered before mid after words operations products gathered shared mid_cycles places closed hubs small placed number o period is moves
+          asked period moves = asked_for storing prepare valid periods diagram order ordered plan times offered
+              before mid after words operations products gathered shared mid_cycles places closed hubs small placed
+              number o period is moves
 
           early_enough : hubs ≤ length mid.nets
-          early_enough = small_mid storing prepare valid periods diagram order ordered plan times offered before mid after words operations products gathered shared mid_cycles places closed hubs small placed
+          early_enough = small_mid storing prepare valid periods diagram order ordered plan times offered before mid
+              after words operations products gathered shared mid_cycles places closed hubs small placed
 
-          has_by : (period : ℕ) (moves : (attributes_of diagram).period_at o.block ≡ Some period) (rule : FullRule) → (row_of b.kind).types.full ≡ rule → IsSecondNet diagram plan times places closed hubs after o.block o.element rule one.right
-              → InLater closed hubs after (HasAll diagram places closed hubs after o b (span_at (timing_by diagram plan times) period o.block) (slot_of diagram (attributes_of diagram) plan times number o) served.left served.right
-              (in_left diagram plan times places closed hubs mid after early_enough mid_cycles (operands_of operations) shared.appends number o b one period (shared.first + one.unit) result (asked period moves) served one.right refl))
+          has_by : (period : ℕ) (moves : (attributes_of diagram).period_at o.block ≡ Some period) (rule : FullRule)
+              → (row_of b.kind).types.full ≡ rule
+              → IsSecondNet diagram plan times places closed hubs after o.block o.element rule one.right
+              → InLater closed hubs after (HasAll diagram places closed hubs after o b
+              (span_at (timing_by diagram plan times) period o.block)
+              (slot_of diagram (attributes_of diagram) plan times number o) served.left served.right
+              (in_left diagram plan times places closed hubs mid after early_enough mid_cycles
+              (operands_of operations) shared.appends number o b one period (shared.first + one.unit) result
+              (asked period moves) served one.right refl))
           has_by period moves FullRule.NoFull e second = absurd second
           has_by period moves (FullRule.FullSum negative accum) e second = absurd second
           has_by period moves (FullRule.FullScaled value spec) e second =
-              gain_has diagram places closed hubs after o b (span_at (timing_by diagram plan times) period o.block) (slot_of diagram (attributes_of diagram) plan times number o) served.left served.right
-              (in_left diagram plan times places closed hubs mid after early_enough mid_cycles (operands_of operations) shared.appends number o b one period (shared.first + one.unit) result (asked period moves) served one.right refl)
+              gain_has diagram places closed hubs after o b (span_at (timing_by diagram plan times) period o.block)
+              (slot_of diagram (attributes_of diagram) plan times number o) served.left served.right
+              (in_left diagram plan times places closed hubs mid after early_enough mid_cycles
+              (operands_of operations) shared.appends number o b one period (shared.first + one.unit) result
+              (asked period moves) served one.right refl)
               value spec second.value one.right e second.stored second.same
-              (in_right diagram plan times places closed hubs mid after early_enough mid_cycles (operands_of operations) shared.appends number o b one period (shared.first + one.unit) result (asked period moves) served one.right refl)
+              (in_right diagram plan times places closed hubs mid after early_enough mid_cycles
+              (operands_of operations) shared.appends number o b one period (shared.first + one.unit) result
+              (asked period moves) served one.right refl)
           has_by period moves FullRule.FullProduct e second =
-              product_has diagram places closed hubs after o b (span_at (timing_by diagram plan times) period o.block) (slot_of diagram (attributes_of diagram) plan times number o) served.left served.right
-              (in_left diagram plan times places closed hubs mid after early_enough mid_cycles (operands_of operations) shared.appends number o b one period (shared.first + one.unit) result (asked period moves) served one.right refl)
-              e (in_right diagram plan times places closed hubs mid after early_enough mid_cycles (operands_of operations) shared.appends number o b one period (shared.first + one.unit) result (asked period moves) served (places.offered o.block 2 o.element) second)
+              product_has diagram places closed hubs after o b
+              (span_at (timing_by diagram plan times) period o.block)
+              (slot_of diagram (attributes_of diagram) plan times number o) served.left served.right
+              (in_left diagram plan times places closed hubs mid after early_enough mid_cycles
+              (operands_of operations) shared.appends number o b one period (shared.first + one.unit) result
+              (asked period moves) served one.right refl)
+              e (in_right diagram plan times places closed hubs mid after early_enough mid_cycles
+              (operands_of operations) shared.appends number o b one period (shared.first + one.unit) result
+              (asked period moves) served (places.offered o.block 2 o.element) second)
           has_by period moves FullRule.UnionOfTwo e second = absurd second
           has_by period moves FullRule.UnionOfEnds e second = absurd second
 
@@ -240,8 +297,14 @@ module _ (storing : StoringGivesOne) (prepare : OperationsPrepare) (valid : Type
               record {
                 factors = record { left = served.left; right = served.right };
                 at = ap (slice_get (multipliers after)) (sym g.unit)
-                    ∙ multiplier_at after.nets shared.first (unit_count operations) one.unit served.left served.right served.multiplies.net (units_are none) (one_above operations number one one_at) served.multiplies.is served.multiplies.multiplies;
-                has = λ period moves. has_by period moves (row_of b.kind).types.full refl (second_at storing prepare valid periods diagram order ordered plan times offered before mid after words operations products gathered shared mid_cycles places closed hubs small placed number o b is at);
+                    ∙ multiplier_at after.nets shared.first
+                    (unit_count operations) one.unit served.left served.right served.multiplies.net
+                    (units_are none) (one_above operations number one one_at) served.multiplies.is
+                    served.multiplies.multiplies;
+                has = λ period moves. has_by period moves (row_of b.kind).types.full refl
+                    (second_at storing prepare valid periods diagram order ordered plan times offered before mid
+                    after words operations products gathered shared mid_cycles places closed hubs small placed
+                    number o b is at);
               }
 
         shared_way : IsSharedWay diagram plan times places place_of closed hubs before after level blocks
@@ -250,7 +313,11 @@ module _ (storing : StoringGivesOne) (prepare : OperationsPrepare) (valid : Type
           way = way_after;
           same = late_same;
           low = product_low;
-          products = record { each = λ block b element at is below. has_product storing prepare valid periods diagram order ordered plan times offered before mid after words operations products gathered shared mid_cycles places closed hubs small placed firsts block b element at is below };
+          products = record {
+            each = λ block b element at is below. has_product storing prepare valid periods
+                diagram order ordered plan times offered before mid after words operations products gathered shared
+                mid_cycles places closed hubs small placed firsts block b element at is below;
+          };
           units = λ none. record { each = λ number o b is at. unit_for none number o b is at };
         }
 

@@ -51,10 +51,17 @@ no_asked = record { frame = record { period = 0; latency = 0 }; slot = 0; unit =
 -- ---- which elements have products
 
 module _ (diagram : Diagram) (plan : Resolved) (products : Products) (firsts : AreFirsts diagram plan products.firsts.items (length diagram.blocks)) where
-  first_is : (block : ℕ) → block < length diagram.blocks → slice_index_or products.firsts.items block None ≡ if_shared (is_shared diagram (attributes_of diagram) plan block) (first_operation diagram plan block)
-  first_is block inside = get_or_from_slice_get products.firsts.items block (if_shared (is_shared diagram (attributes_of diagram) plan block) (first_operation diagram plan block)) None (firsts.each block inside)
+  first_is : (block : ℕ) → block < length diagram.blocks
+      → slice_index_or products.firsts.items block None
+      ≡ if_shared (is_shared diagram (attributes_of diagram) plan block) (first_operation diagram plan block)
+  first_is block inside = get_or_from_slice_get products.firsts.items block
+      (if_shared (is_shared diagram (attributes_of diagram) plan block) (first_operation diagram plan block)) None
+      (firsts.each block inside)
 
-  product_is : (block element : ℕ) → block < length diagram.blocks → is_shared diagram (attributes_of diagram) plan block ≡ true → product_at products block element ≡ slice_get products.results (first_operation diagram plan block + element)
+  product_is : (block element : ℕ) → block < length diagram.blocks
+      → is_shared diagram (attributes_of diagram) plan block ≡ true
+      → product_at products block element
+      ≡ slice_get products.results (first_operation diagram plan block + element)
   product_is block element inside shared =
       ap (product_by products.results element) (first_is block inside ∙ ap (λ (b : Bool). if_shared b (first_operation diagram plan block)) shared)
 
@@ -62,7 +69,10 @@ module _ (diagram : Diagram) (plan : Resolved) (products : Products) (firsts : A
   net_is block element number e = ap number_or_zero e
 
   -- the result of an operation is the net of its product
-  pub result_there : (block element : ℕ) → length products.results ≡ length (shared_operations diagram (attributes_of diagram) plan) → block < length diagram.blocks → is_shared diagram (attributes_of diagram) plan block ≡ true → element < (attributes_of diagram).width_at block 1
+  pub result_there : (block element : ℕ) → length products.results
+      ≡ length (shared_operations diagram (attributes_of diagram) plan) → block < length diagram.blocks
+      → is_shared diagram (attributes_of diagram) plan block ≡ true
+      → element < (attributes_of diagram).width_at block 1
       → slice_get products.results (first_operation diagram plan block + element) ≡ Some (product_net products block element)
   result_there block element count inside shared below =
       let place : ℕ = first_operation diagram plan block + element in
@@ -81,15 +91,27 @@ module _ (diagram : Diagram) (plan : Resolved) (products : Products) (firsts : A
 -- ---- coefficients
 
 -- a coefficient is in the range of its type
-coefficient_fits : OperationsPrepare → (diagram : Diagram) (order : List ℕ) → IsOrdered diagram order → (block : ℕ) (b : Block) (element : ℕ) → slice_get diagram.blocks block ≡ Some b → (a c : Circuit) (number : ℕ) (value : List Decimal) (spec : TypeSpec) → b.kind ≡ Gain value spec
-    → (is : IsCoefficient a c value element ((attributes_of diagram).param_at block) number) → InWord (width_of ((attributes_of diagram).param_at block)) (is_signed ((attributes_of diagram).param_at block)) is.value
+coefficient_fits : OperationsPrepare → (diagram : Diagram) (order : List ℕ) → IsOrdered diagram order
+    → (block : ℕ) (b : Block) (element : ℕ) → slice_get diagram.blocks block ≡ Some b
+    → (a c : Circuit) (number : ℕ) (value : List Decimal) (spec : TypeSpec) → b.kind ≡ Gain value spec
+    → (is : IsCoefficient a c value element ((attributes_of diagram).param_at block) number)
+    → InWord (width_of ((attributes_of diagram).param_at block))
+    (is_signed ((attributes_of diagram).param_at block)) is.value
 coefficient_fits prepare diagram order ordered block b element at a c number value spec kind is =
     let can = prepare diagram order block b element (OpGain is.value ((attributes_of diagram).param_at block)) ordered at
-    (subst (λ (k : Kind). IsOpOf k element ((attributes_of diagram).param_at block) (type_into diagram (attributes_of diagram) block 2) (OpGain is.value ((attributes_of diagram).param_at block))) (sym kind) (is.value, is.stored, refl)) in
+    (subst (λ (k : Kind). IsOpOf k element ((attributes_of diagram).param_at block)
+    (type_into diagram (attributes_of diagram) block 2)
+    (OpGain is.value ((attributes_of diagram).param_at block))) (sym kind) (is.value, is.stored, refl)) in
     range-word ((attributes_of diagram).param_at block) is.value can.parameters.1
 
-module _ (storing : StoringGivesOne) (prepare : OperationsPrepare) (valid : TypesAreValid) (periods : OperationsHavePeriods) (diagram : Diagram) (order : List ℕ) (ordered : IsOrdered diagram order) (plan : Resolved) (times : Times) (offered : ℕ → ℕ → ℕ → ℕ) (before mid after : Circuit) (words : OffersWords diagram plan offered before)
-    (operations : List Asked) (products : Products) (gathered : GathersMore diagram plan times offered before mid [] operations 0 (first_operation diagram plan (length diagram.blocks))) (shared : AreShared mid after operations products.results) (cycles : mid.cycles ≡ plan.cycles)
+module _ (storing : StoringGivesOne) (prepare : OperationsPrepare) (valid : TypesAreValid)
+    (periods : OperationsHavePeriods) (diagram : Diagram) (order : List ℕ) (ordered : IsOrdered diagram order)
+    (plan : Resolved) (times : Times) (offered : ℕ → ℕ → ℕ → ℕ) (before mid after : Circuit)
+    (words : OffersWords diagram plan offered before)
+    (operations : List Asked) (products : Products)
+    (gathered : GathersMore diagram plan times offered before mid [] operations 0
+    (first_operation diagram plan (length diagram.blocks)))
+    (shared : AreShared mid after operations products.results) (cycles : mid.cycles ≡ plan.cycles)
   where
     -- as many as there are
     pub operations_count : length operations ≡ length (shared_operations diagram (attributes_of diagram) plan)
@@ -105,7 +127,8 @@ module _ (storing : StoringGivesOne) (prepare : OperationsPrepare) (valid : Type
         let count = operations_count in
         slice_get-get_or operations number no_asked (omega (arith, inside, count))
 
-    pub gathered_at : (number : ℕ) (o : Operation) → IsOperation diagram (attributes_of diagram) plan number o → IsGathered diagram plan times offered before mid number o (slice_index_or operations number no_asked)
+    pub gathered_at : (number : ℕ) (o : Operation) → IsOperation diagram (attributes_of diagram) plan number o
+        → IsGathered diagram plan times offered before mid number o (slice_index_or operations number no_asked)
     gathered_at number o is = gathered.each number o (slice_index_or operations number no_asked) (omega arith) is (asked_at number o is)
 
     pub served_at : (number : ℕ) (o : Operation) (result : ℕ) → IsOperation diagram (attributes_of diagram) plan number o → slice_get products.results number ≡ Some result
@@ -117,7 +140,8 @@ module _ (storing : StoringGivesOne) (prepare : OperationsPrepare) (valid : Type
       small_mid = let more = longer before mid gathered.adds.appends.extends in omega (arith, small, more)
 
       -- the net of a second operand
-      second_by : (block element number : ℕ) (b : Block) → slice_get diagram.blocks block ≡ Some b → (kind : Kind) → b.kind ≡ kind → IsSecond diagram offered before mid block element (row_of kind).types.full number
+      second_by : (block element number : ℕ) (b : Block) → slice_get diagram.blocks block ≡ Some b → (kind : Kind)
+          → b.kind ≡ kind → IsSecond diagram offered before mid block element (row_of kind).types.full number
           → IsSecondNet diagram plan times places closed hubs after block element (row_of kind).types.full number
       second_by block element number b at (Gain value spec) kind second =
           let net : Net = constant_net ((attributes_of diagram).param_at block) second.value in
@@ -149,7 +173,10 @@ module _ (storing : StoringGivesOne) (prepare : OperationsPrepare) (valid : Type
           }
 
       -- the product of an element
-      pub has_product : AreFirsts diagram plan products.firsts.items (length diagram.blocks) → (block : ℕ) (b : Block) (element : ℕ) → slice_get diagram.blocks block ≡ Some b → is_shared diagram (attributes_of diagram) plan block ≡ true → element < (attributes_of diagram).width_at block 1
+      pub has_product : AreFirsts diagram plan products.firsts.items (length diagram.blocks)
+          → (block : ℕ) (b : Block) (element : ℕ) → slice_get diagram.blocks block ≡ Some b
+          → is_shared diagram (attributes_of diagram) plan block ≡ true
+          → element < (attributes_of diagram).width_at block 1
           → HasProduct diagram plan times places closed hubs after block b element
       has_product firsts block b element at is below =
           let inside = slice_get_within diagram.blocks block b at in
@@ -172,14 +199,22 @@ module _ (storing : StoringGivesOne) (prepare : OperationsPrepare) (valid : Type
             right = one.right;
             second = second_at number o b there at;
             product = λ period moves.
-                subst (λ (n : ℕ). InLater closed hubs after (λ clocks rows. IsProductAt clocks (span_at (timing_by diagram plan times) period block) (slot_of diagram (attributes_of diagram) plan times number o) (rows (places.offered block 1 element)) (rows one.right) (rows n))) same
-                (product_kept diagram plan times places closed hubs mid after small_mid cycles (operands_of operations) shared.appends number o b one period (shared.first + one.unit) (product_net products block element) (asked_for number o period there moves) served one.right refl);
+                subst (λ (n : ℕ). InLater closed hubs after
+                (λ clocks rows. IsProductAt clocks (span_at (timing_by diagram plan times) period block)
+                (slot_of diagram (attributes_of diagram) plan times number o)
+                (rows (places.offered block 1 element)) (rows one.right) (rows n))) same
+                (product_kept diagram plan times places closed hubs mid after small_mid cycles
+                (operands_of operations) shared.appends number o b one period (shared.first + one.unit)
+                (product_net products block element)
+                (asked_for number o period there moves) served one.right refl);
             full = full.0;
             is_full = full.1;
             word = record {
               net = word.net;
               is = ap (slice_get after.nets) (placed.product_is block element) ∙ word.is;
               wide = word.wide ∙ ap (λ (w : ℕ). w + right.net.width) left.wide ∙ ap (λ (w : ℕ). width_of (type_into diagram (attributes_of diagram) block 1) + w) right.wide ∙ sym full.1.width;
-              sign = word.sign ∙ ap (λ (s : Bool). s || right.net.signed) left.sign ∙ ap (λ (s : Bool). is_signed (type_into diagram (attributes_of diagram) block 1) || s) right.sign ∙ sym full.1.sign;
+              sign = word.sign ∙ ap (λ (s : Bool). s || right.net.signed) left.sign
+                  ∙ ap (λ (s : Bool). is_signed (type_into diagram (attributes_of diagram) block 1) || s) right.sign
+                  ∙ sym full.1.sign;
             };
           }

@@ -32,7 +32,9 @@ module _ (hubs : ℕ) (now : Circuit) (inputs : ℕ) (sound : AreSound hubs hubs
   pub has_counters : HasCounters now.nets
   has_counters = record { each = λ k net frame at names. (every_sound k net at).counted frame names }
 
-pub netlist_runs : (diagram : Diagram) (plan : Resolved) (times : Times) (places : Places) (hubs : ℕ) (now : Circuit) (level : ℕ → ℕ) → 0 < now.cycles → AreSound hubs hubs now (length now.inputs) → IsLevelled now.nets level → HaveInputs diagram places now
+pub netlist_runs : (diagram : Diagram) (plan : Resolved) (times : Times) (places : Places) (hubs : ℕ)
+    (now : Circuit) (level : ℕ → ℕ) → 0 < now.cycles → AreSound hubs hubs now (length now.inputs)
+    → IsLevelled now.nets level → HaveInputs diagram places now
     → HasPorts diagram plan times now places → IsNetlist now
 netlist_runs diagram plan times places hubs now level some sound levelled have ports = record {
   cycles = some;

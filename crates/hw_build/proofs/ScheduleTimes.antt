@@ -26,7 +26,8 @@ use Rattle.hw_latency.specs.Laws.{UnaskedBlocksAreZero}
 use Rattle.hw_latency.specs.Weight.{is_free, is_registered, behind}
 use Rattle.hw_sched.specs.Slots.{Timing as Times, Operation, operation, shared_operations, slot_of}
 use Rattle.hw_sched.specs.Ready.{ready_of}
-use Rattle.hw_sched.specs.Laws.{is_moving, MovingHavePeriods, JoinsPeriods, IsEdge, LinesAreEdges, ControlsAreEdges, EdgesJoinPeriods, IsOperation, OperationsAreServed, OperationsHavePeriods, NoneIntoRoots, RootsAreReady, ReadyFits, ReadyRises, OperandsAreReady, EdgesAreInTime}
+use Rattle.hw_sched.specs.Laws.{is_moving, MovingHavePeriods, JoinsPeriods, IsEdge, LinesAreEdges, ControlsAreEdges, EdgesJoinPeriods, IsOperation, OperationsAreServed, OperationsHavePeriods}
+use Rattle.hw_sched.specs.Laws.{NoneIntoRoots, RootsAreReady, ReadyFits, ReadyRises, OperandsAreReady, EdgesAreInTime}
 use Rattle.hw_sched.specs.Scheduled.{IsScheduled}
 use Rattle.hw_shows.specs.Timing.{Timing, IsPlainEdge, IsLateEdge, IsEdgeInTime}
 use Rattle.hw_shows.specs.Timed.{lag_of, lag_into, Feeds, IsInTime}
@@ -42,7 +43,8 @@ pub record IsSlotOf (diagram : Diagram) (plan : Resolved) (times : Times) (block
   pub is : IsOperation diagram (attributes_of diagram) plan number (operation block element)
   pub slot_is : slot_of diagram (attributes_of diagram) plan times number (operation block element) ≡ slot
 
-pub slot_found : (diagram : Diagram) (plan : Resolved) (times : Times) (block element slot : ℕ) (found : Option ℕ) → number_at diagram plan block element ≡ found → slot_by diagram plan times block element found ≡ Some slot
+pub slot_found : (diagram : Diagram) (plan : Resolved) (times : Times) (block element slot : ℕ) (found : Option ℕ)
+    → number_at diagram plan block element ≡ found → slot_by diagram plan times block element found ≡ Some slot
     → IsSlotOf diagram plan times block element slot
 slot_found diagram plan times block element slot None at e = absurd (none-some slot e)
 slot_found diagram plan times block element slot (Some number) at e =
@@ -56,22 +58,28 @@ slot_found diagram plan times block element slot (Some number) at e =
     let same : ◌≡◌ {A = Operation} o (operation block element) = ap (λ (n : ℕ). operation n o.element) block_is ∙ ap (operation block) element_is in
     record { number = number; is = here ∙ ap Some same; slot_is = same_Some (slot_of diagram (attributes_of diagram) plan times number (operation block element)) slot e }
 
-pub slot_told : (diagram : Diagram) (plan : Resolved) (times : Times) (block element slot : ℕ) → (timing_by diagram plan times).slot block element ≡ Some slot → IsSlotOf diagram plan times block element slot
+pub slot_told : (diagram : Diagram) (plan : Resolved) (times : Times) (block element slot : ℕ)
+    → (timing_by diagram plan times).slot block element ≡ Some slot → IsSlotOf diagram plan times block element slot
 slot_told diagram plan times block element slot e = slot_found diagram plan times block element slot (number_at diagram plan block element) refl e
 
 -- ---- edges
 
 rate_edge : (timing : Timing) (from source block own : ℕ) (slower b : Bool) → not slower ≡ not b → ((true && not (not b)) ≡ false → IsPlainEdge timing from source block own)
-    → ((true && not (not b)) ≡ true → IsLateEdge timing from source block own (if b then source else 0)) → IsEdgeInTime timing from source block own (lag_of Reading.BeforeIfSlower 0 None slower source)
+    → ((true && not (not b)) ≡ true → IsLateEdge timing from source block own (if b then source else 0))
+    → IsEdgeInTime timing from source block own (lag_of Reading.BeforeIfSlower 0 None slower source)
 rate_edge timing from source block own true true e plain late = late refl
 rate_edge timing from source block own false false e plain late = plain refl
 rate_edge timing from source block own true false e plain late = absurd (false≢true e)
 rate_edge timing from source block own false true e plain late = absurd (false≢true (sym e))
 
 -- an end of a block is in time as it reads
-edge_by : (timing : Timing) (from source block own delay : ℕ) (reading : Reading) (enable : Option ℕ) (slower : Bool) → (joins_periods reading ≡ false → own ≡ source) → (joins_periods reading ≡ true → enable ≡ None)
+edge_by : (timing : Timing) (from source block own delay : ℕ) (reading : Reading) (enable : Option ℕ)
+    (slower : Bool) → (joins_periods reading ≡ false → own ≡ source)
+    → (joins_periods reading ≡ true → enable ≡ None)
     → is_now reading slower ≡ is_now reading (nat_lt own source) → ((is_free enable && not (is_now reading (nat_lt own source))) ≡ false → IsPlainEdge timing from source block own)
-    → ((is_free enable && not (is_now reading (nat_lt own source))) ≡ true → IsLateEdge timing from source block own (behind reading delay own source)) → IsEdgeInTime timing from source block own (lag_of reading delay enable slower source)
+    → ((is_free enable && not (is_now reading (nat_lt own source))) ≡ true
+    → IsLateEdge timing from source block own (behind reading delay own source))
+    → IsEdgeInTime timing from source block own (lag_of reading delay enable slower source)
 edge_by timing from source block own delay Reading.Now None slower same free now plain late = plain refl
 edge_by timing from source block own delay Reading.Now (Some control) slower same free now plain late = plain refl
 edge_by timing from source block own delay Reading.Before None slower same free now plain late = subst (λ (p : ℕ). IsLateEdge timing from source block own (delay * p)) (same refl) (late refl)
@@ -92,7 +100,9 @@ pub free_of_control : (diagram : Diagram) (block : ℕ) (b : Block) → IsWired 
 free_of_control diagram block b wired at joins =
     subst (λ (s : Standing). MayStand s b.enable) (stands_outside b.kind joins) (held (λ (x : Block). MayStand (row_of x.kind).place.stands x.enable) diagram.blocks block b wired.enables at)
 
-module _ (zeros : UnaskedBlocksAreZero) (moving : MovingHavePeriods) (lines : LinesAreEdges) (controls : ControlsAreEdges) (joins : EdgesJoinPeriods) (in_time : EdgesAreInTime) (served : OperationsAreServed) (have : OperationsHavePeriods)
+module _ (zeros : UnaskedBlocksAreZero) (moving : MovingHavePeriods) (lines : LinesAreEdges)
+    (controls : ControlsAreEdges) (joins : EdgesJoinPeriods) (in_time : EdgesAreInTime)
+    (served : OperationsAreServed) (have : OperationsHavePeriods)
     (none : NoneIntoRoots) (roots : RootsAreReady) (fits : ReadyFits) (rises : ReadyRises) (operands : OperandsAreReady)
   where
     module _ (diagram : Diagram) (plan : Resolved) (times : Times) (s : IsScheduled diagram plan times) where
@@ -106,8 +116,10 @@ module _ (zeros : UnaskedBlocksAreZero) (moving : MovingHavePeriods) (lines : Li
           → (is_registered b own source ≡ true → IsLateEdge (timing_by diagram plan times) from source block own (behind (row_of b.kind).timing.reads (row_of b.kind).timing.delay own source))
           → IsEdgeInTime (timing_by diagram plan times) from source block own (lag_into diagram (attributes_of diagram) block b target source)
 
-      end_in_time : (block : ℕ) (b : Block) (target : Target) (from from_port source number : ℕ) → slice_get diagram.blocks block ≡ Some b → IsEdge diagram number (edge_into block target from from_port)
-          → (attributes_of diagram).period_at from ≡ Some source → IsToldBy block b target from from_port source → IsInTime diagram (attributes_of diagram) (timing_by diagram plan times) block b target from source
+      end_in_time : (block : ℕ) (b : Block) (target : Target) (from from_port source number : ℕ)
+          → slice_get diagram.blocks block ≡ Some b → IsEdge diagram number (edge_into block target from from_port)
+          → (attributes_of diagram).period_at from ≡ Some source → IsToldBy block b target from from_port source
+          → IsInTime diagram (attributes_of diagram) (timing_by diagram plan times) block b target from source
       end_in_time block b target from from_port source number at is_edge is told =
           let edge : LatencyEdge = edge_into block target from from_port in
           let own = joins diagram number edge b source s.checked is_edge at is in
@@ -120,21 +132,31 @@ module _ (zeros : UnaskedBlocksAreZero) (moving : MovingHavePeriods) (lines : Li
             ready = λ now. rises diagram plan times number edge source s is_edge (ap (takes_now_at diagram (attributes_of diagram) edge) at ∙ now) is;
             slot = λ element slot told.
                 let o = slot_told diagram plan times block element slot told in
-                subst (λ (n : ℕ). ready_of diagram (attributes_of diagram) plan times from ≤ n) o.slot_is (operands diagram plan times number edge source o.number (operation block element) s is_edge is o.is refl);
+                subst (λ (n : ℕ). ready_of diagram (attributes_of diagram) plan times from ≤ n) o.slot_is
+                (operands diagram plan times number edge source o.number
+                (operation block element) s is_edge is o.is refl);
           }
 
-      ends_in_time : (block : ℕ) (b : Block) (target : Target) (from source : ℕ) → slice_get diagram.blocks block ≡ Some b → Feeds diagram block b target from → (attributes_of diagram).period_at from ≡ Some source
+      ends_in_time : (block : ℕ) (b : Block) (target : Target) (from source : ℕ)
+          → slice_get diagram.blocks block ≡ Some b → Feeds diagram block b target from
+          → (attributes_of diagram).period_at from ≡ Some source
           → IsInTime diagram (attributes_of diagram) (timing_by diagram plan times) block b target from source
       ends_in_time block b (Port port) from source at feeds is =
           let line : Edge = feeds.0 in
           let number = lines diagram block port line feeds.3 in
-          let is_edge : IsEdge diagram number.0 (edge_into block (Port port) from line.from_port) = subst (λ (n : ℕ). IsEdge diagram number.0 (edge_into block (Port port) n line.from_port)) feeds.4 number.1 in
+          let is_edge : IsEdge diagram number.0 (edge_into block (Port port) from line.from_port) =
+          subst (λ (n : ℕ). IsEdge diagram number.0 (edge_into block (Port port) n line.from_port)) feeds.4
+          number.1 in
           end_in_time block b (Port port) from line.from_port source number.0 at is_edge is
           (λ own j plain late. edge_by (timing_by diagram plan times) from source block own (row_of b.kind).timing.delay (row_of b.kind).timing.reads b.enable
-          (is_slow_to_fast (period_into diagram (attributes_of diagram) block 1) ((attributes_of diagram).period_at block)) j.same (free_of_control diagram block b s.checked.wired at) j.now plain late)
+          (is_slow_to_fast (period_into diagram (attributes_of diagram) block 1)
+          ((attributes_of diagram).period_at block)) j.same
+          (free_of_control diagram block b s.checked.wired at) j.now plain late)
       ends_in_time block b Enable from source at feeds is =
           let number = controls diagram block b from at feeds.0 feeds.1 in
-          end_in_time block b Enable from 1 source number.0 at number.1 is (λ own j plain late. plain (ap (λ (e : Option ℕ). is_free e && not (is_now (row_of b.kind).timing.reads (nat_lt own source))) feeds.0))
+          end_in_time block b Enable from 1 source number.0 at number.1 is
+          (λ own j plain late. plain (ap (λ (e : Option ℕ). is_free e
+          && not (is_now (row_of b.kind).timing.reads (nat_lt own source))) feeds.0))
 
       slot_early : (block element slot : ℕ) → (timing_by diagram plan times).slot block element ≡ Some slot → slot < ready_of diagram (attributes_of diagram) plan times block
       slot_early block element slot told =
@@ -143,7 +165,8 @@ module _ (zeros : UnaskedBlocksAreZero) (moving : MovingHavePeriods) (lines : Li
           let is = served diagram (attributes_of diagram) plan times o.number (operation block element) period.0 s.timed.fed s.timed.depths o.is period.1 in
           omega (arith, is.within, is.ready, o.slot_is)
 
-      none_still : (block element : ℕ) (found : Option ℕ) → number_at diagram plan block element ≡ found → (attributes_of diagram).period_at block ≡ None → slot_by diagram plan times block element found ≡ None
+      none_still : (block element : ℕ) (found : Option ℕ) → number_at diagram plan block element ≡ found
+          → (attributes_of diagram).period_at block ≡ None → slot_by diagram plan times block element found ≡ None
       none_still block element None at e = refl
       none_still block element (Some number) at e =
           let o = slot_found diagram plan times block element (slot_of diagram (attributes_of diagram) plan times number (operation block element)) (Some number) at refl in

@@ -1,5 +1,6 @@
 -- Wants get their places in classes one by one.
-use Rattle.std.proofs.Common.{◌≡◌, ◌≢◌, ℕ, suc, ◌+◌, ◌<◌, ◌⊎◌, Bool, true, false, None, if◌then◌else◌, take, inl, inr, ◌++◌, ◌∷◌, List, [], length, length-append, zero, Some, ap, sym, ◌∙◌, subst, refl, arith}
+use Rattle.std.proofs.Common.{◌≡◌, ◌≢◌, ℕ, suc, ◌+◌, ◌<◌, ◌⊎◌, Bool, true, false, None, if◌then◌else◌, take, inl, inr, ◌++◌, ◌∷◌, List, [], length, length-append, zero, Some, ap, sym, ◌∙◌, subst}
+use Rattle.std.proofs.Common.{refl, arith}
 use Rattle.std.specs.Prelude.{All, slice_get, slice_set, get_or}
 use Rattle.std.proofs.Math.Seq.{take-suc}
 use Rattle.std.proofs.lemmas.Bool.{false≢true, cases_lt}
@@ -15,7 +16,8 @@ use Rattle.hw_build.specs.declared.wants.Want.{Want}
 use Rattle.hw_build.specs.declared.wants.Class.{Class}
 use Rattle.hw_build.specs.declared.wants.Seat.{Seat}
 use Rattle.hw_build.specs.inner.Feeds.{is_same_feed, number_at_feed}
-use Rattle.hw_build.specs.inner.Wants.{source_by, IsWant, IsClass, AreClasses, HasFeed, AreIndexed, uses_of_feed, IsFolded, AreFolded, IsClassFor, IsSeat, KeepsUses, KeepsClass, KeepsClasses, IsSeated, AreSeated}
+use Rattle.hw_build.specs.inner.Wants.{source_by, IsWant, IsClass, AreClasses, HasFeed, AreIndexed, uses_of_feed, IsFolded, AreFolded, IsClassFor, IsSeat, KeepsUses, KeepsClass, KeepsClasses}
+use Rattle.hw_build.specs.inner.Wants.{IsSeated, AreSeated}
 use Rattle.hw_build.proofs.FeedOrder.{feed_same, feed_is, feed_differs}
 use Rattle.dg_tables.proofs.EntryLayout.{set_there}
 use Rattle.hw_build.proofs.Levels.{set_elsewhere}
@@ -34,7 +36,10 @@ cases_order c number = elim (cases_lt c number) [
 pub class_found : (classes : List Class) (feed : Feed) (number : ℕ) (one : Class) → slice_get classes number ≡ Some one → one.feed ≡ feed → IsClassFor classes classes feed number
 class_found classes feed number one at same = record { grown = inl refl; has = record { one = one; is = at; same = same } }
 
-pub class_new : (old new : List Class) (feed : Feed) (number : ℕ) (one : Class) → number ≡ length old → new ≡ old ++ one ∷ [] → one.feed ≡ feed → one.uses.items ≡ [] → ((c : ℕ) (other : Class) → slice_get old c ≡ Some other → other.feed ≢ feed) → IsClassFor old new feed number
+pub class_new : (old new : List Class) (feed : Feed) (number : ℕ) (one : Class) → number ≡ length old
+    → new ≡ old ++ one ∷ [] → one.feed ≡ feed → one.uses.items ≡ []
+    → ((c : ℕ) (other : Class) → slice_get old c ≡ Some other → other.feed ≢ feed)
+    → IsClassFor old new feed number
 class_new old new feed number one last grown same none fresh = record {
   grown = inr (one, grown, none, last, fresh);
   has = record { one = one; is = ap (slice_get new) last ∙ ap (λ (xs : List Class). slice_get xs (length old)) grown ∙ last_at old one; same = same };
@@ -61,14 +66,17 @@ indexed_new old new index more feed number one are last grown same put = record 
         let has = are.found other n e in
         record { one = has.one; is = ap (λ (xs : List Class). slice_get xs n) grown ∙ get_left old (one ∷ []) n has.one has.is; same = has.same }
 
-    none_at : (other : Feed) (flag : Bool) → is_same_feed feed other ≡ flag → (if flag then Some number else number_at_feed index other) ≡ None → (c : ℕ) (x : Class) → slice_get new c ≡ Some x → x.feed ≢ other
+    none_at : (other : Feed) (flag : Bool) → is_same_feed feed other ≡ flag
+        → (if flag then Some number else number_at_feed index other) ≡ None → (c : ℕ) (x : Class)
+        → slice_get new c ≡ Some x → x.feed ≢ other
     none_at other true is e c x at = absurd (none-some number (sym e))
     none_at other false is e c x at = elim (split-last old one x c (sym (ap (λ (xs : List Class). slice_get xs c) grown) ∙ at)) [
       | inl front ↦ are.none other e c x front.1
       | inr end ↦ λ equal. false≢true (sym is ∙ feed_is feed other (sym same ∙ ap (λ (y : Class). y.feed) end.1 ∙ equal))
     ]
 
-pub indexed_set : (mid : List Class) (index : List (Feed × ℕ)) (number : ℕ) (one now : Class) → AreIndexed mid index → slice_get mid number ≡ Some one → now.feed ≡ one.feed → AreIndexed (slice_set mid number now) index
+pub indexed_set : (mid : List Class) (index : List (Feed × ℕ)) (number : ℕ) (one now : Class) → AreIndexed mid index
+    → slice_get mid number ≡ Some one → now.feed ≡ one.feed → AreIndexed (slice_set mid number now) index
 indexed_set mid index number one now are at same = record {
   found = λ feed n e. let has = are.found feed n e in found_at feed n has (cases_order n number);
   none = λ feed e c x there. none_at feed e c x there (cases_order c number);
@@ -78,7 +86,14 @@ indexed_set mid index number one now are at same = record {
     here = set_there mid number now (slice_get_within mid number one at)
 
     found_at : (feed : Feed) (n : ℕ) (has : HasFeed mid feed n) → (n ≡ number) ⊎ (n ≢ number) → HasFeed (slice_set mid number now) feed n
-    found_at feed n has (inl equal) = record { one = now; is = ap (slice_get (slice_set mid number now)) equal ∙ here; same = same ∙ ap (λ (y : Class). y.feed) (same_Some one has.one (sym at ∙ ap (slice_get mid) (sym equal) ∙ has.is)) ∙ has.same }
+    found_at feed n has (inl equal) = record {
+      one = now;
+      is =
+          ap (slice_get (slice_set mid number now)) equal ∙ here;
+      same =
+          same ∙ ap (λ (y : Class). y.feed) (same_Some one has.one
+          (sym at ∙ ap (slice_get mid) (sym equal) ∙ has.is)) ∙ has.same;
+    }
     found_at feed n has (inr differs) = record { one = has.one; is = set_elsewhere mid number n now differs ∙ has.is; same = has.same }
 
     none_at : (feed : Feed) → number_at_feed index feed ≡ None → (c : ℕ) (x : Class) → slice_get (slice_set mid number now) c ≡ Some x → (c ≡ number) ⊎ (c ≢ number) → x.feed ≢ feed
@@ -97,19 +112,25 @@ uses_more feed (w ∷ wants) want = go (is_same_feed feed w.feed) (uses_more fee
     tail = if is_same_feed feed want.feed then want.to ∷ [] else []
 
     go : (flag : Bool) → uses_of_feed feed (wants ++ want ∷ []) ≡ uses_of_feed feed wants ++ (if is_same_feed feed want.feed then want.to ∷ [] else [])
-        → (if flag then w.to ∷ uses_of_feed feed (wants ++ want ∷ []) else uses_of_feed feed (wants ++ want ∷ [])) ≡ (if flag then w.to ∷ uses_of_feed feed wants else uses_of_feed feed wants) ++ (if is_same_feed feed want.feed then want.to ∷ [] else [])
+        → (if flag then w.to ∷ uses_of_feed feed (wants ++ want ∷ []) else uses_of_feed feed (wants ++ want ∷ []))
+        ≡ (if flag then w.to ∷ uses_of_feed feed wants else uses_of_feed feed wants)
+        ++ (if is_same_feed feed want.feed then want.to ∷ [] else [])
     go true rest = ap (λ (xs : List Use). w.to ∷ xs) rest
     go false rest = rest
 
 uses_other : (feed : Feed) (wants : List Want) (want : Want) → feed ≢ want.feed → uses_of_feed feed (wants ++ want ∷ []) ≡ uses_of_feed feed wants
-uses_other feed wants want differs = uses_more feed wants want ∙ ap (λ (flag : Bool). uses_of_feed feed wants ++ (if flag then want.to ∷ [] else [])) (feed_differs feed want.feed differs) ∙ append-nil (uses_of_feed feed wants)
+uses_other feed wants want differs = uses_more feed wants want
+    ∙ ap (λ (flag : Bool). uses_of_feed feed wants ++ (if flag then want.to ∷ [] else []))
+    (feed_differs feed want.feed differs) ∙ append-nil (uses_of_feed feed wants)
 
 uses_own : (feed : Feed) (wants : List Want) (want : Want) → feed ≡ want.feed → uses_of_feed feed (wants ++ want ∷ []) ≡ uses_of_feed feed wants ++ want.to ∷ []
 uses_own feed wants want same = uses_more feed wants want ∙ ap (λ (flag : Bool). uses_of_feed feed wants ++ (if flag then want.to ∷ [] else [])) (feed_is feed want.feed same)
 
 uses_none : (feed : Feed) (wants : List Want) → ((k : ℕ) (want : Want) → slice_get wants k ≡ Some want → feed ≢ want.feed) → uses_of_feed feed wants ≡ []
 uses_none feed [] none = refl
-uses_none feed (w ∷ wants) none = ap (λ (flag : Bool). if flag then w.to ∷ uses_of_feed feed wants else uses_of_feed feed wants) (feed_differs feed w.feed (none 0 w refl)) ∙ uses_none feed wants (λ k want at. none (suc k) want at)
+uses_none feed (w ∷ wants) none = ap (λ (flag : Bool). if flag then w.to
+    ∷ uses_of_feed feed wants else uses_of_feed feed wants) (feed_differs feed w.feed (none 0 w refl))
+    ∙ uses_none feed wants (λ k want at. none (suc k) want at)
 
 pub folded_none : AreFolded [] []
 folded_none = record {
@@ -138,7 +159,9 @@ one_use P uses one all is = All-append P uses (one ∷ []) all (λ k d below. go
     go (suc k) d below = absurd (omega (arith, below))
 
 -- all uses of the classes may be asked for, where the new class has none
-asked_mid : (net : Circuit) (old mid : List Class) (feed : Feed) (number c : ℕ) (one : Class) → IsClassFor old mid feed number → AreClasses net old → slice_get mid c ≡ Some one → IsClass net one ⊎ ((c ≡ length old) × (one.uses.items ≡ []))
+asked_mid : (net : Circuit) (old mid : List Class) (feed : Feed) (number c : ℕ) (one : Class)
+    → IsClassFor old mid feed number → AreClasses net old → slice_get mid c ≡ Some one
+    → IsClass net one ⊎ ((c ≡ length old) × (one.uses.items ≡ []))
 asked_mid net old mid feed number c one is are at = elim is.grown [
   | inl same ↦ inl (are.each c one (sym (ap (λ (xs : List Class). slice_get xs c) same) ∙ at))
   | inr more ↦ elim (split-last old more.0 one c (sym (ap (λ (xs : List Class). slice_get xs c) more.1) ∙ at)) [
@@ -188,7 +211,9 @@ module _ (old mid new : List Class) (want : Want) (number place : ℕ) (one now 
         ] in
         record {
           source = subst (λ (f : Feed). IsSource net (source_by f)) (sym feed_is_want) wanted.source;
-          asked = subst (λ (f : Feed). All (IsUse (source_by f)) now.uses.items) (sym feed_is_want) (subst (λ (uses : List Use). All (IsUse (source_by want.feed)) uses) (sym grown) (one_use (IsUse (source_by want.feed)) one.uses.items want.to before wanted.asked));
+          asked = subst (λ (f : Feed). All (IsUse (source_by f)) now.uses.items) (sym feed_is_want)
+              (subst (λ (uses : List Use). All (IsUse (source_by want.feed)) uses) (sym grown)
+              (one_use (IsUse (source_by want.feed)) one.uses.items want.to before wanted.asked));
         }
 
     sound_mid : (net : Circuit) → IsWant net want → AreClasses net old → (c : ℕ) (x : Class) → slice_get mid c ≡ Some x → c ≢ number → IsClass net x
@@ -213,14 +238,23 @@ module _ (old mid new : List Class) (want : Want) (number place : ℕ) (one now 
     mid_differ : (wants : List Want) → AreFolded wants old → (c d : ℕ) (x y : Class) → c < d → slice_get mid c ≡ Some x → slice_get mid d ≡ Some y → x.feed ≢ y.feed
     mid_differ wants folded c d x y less c_at d_at = elim is.grown [
       | inl kept ↦ folded.differ c d x y less (sym (ap (λ (xs : List Class). slice_get xs c) kept) ∙ c_at) (sym (ap (λ (xs : List Class). slice_get xs d) kept) ∙ d_at)
-      | inr more ↦ by more (split-last old more.0 x c (sym (ap (λ (xs : List Class). slice_get xs c) more.1) ∙ c_at)) (split-last old more.0 y d (sym (ap (λ (xs : List Class). slice_get xs d) more.1) ∙ d_at))
+      | inr more ↦ by more (split-last old more.0 x c
+          (sym (ap (λ (xs : List Class). slice_get xs c) more.1) ∙ c_at))
+          (split-last old more.0 y d (sym (ap (λ (xs : List Class). slice_get xs d) more.1) ∙ d_at))
     ]
       where
-        new_feed : (more : (new_one : Class) × (mid ≡ old ++ new_one ∷ []) × (new_one.uses.items ≡ []) × (number ≡ length old) × ((k : ℕ) (other : Class) → slice_get old k ≡ Some other → other.feed ≢ want.feed)) (z : Class) (k : ℕ) → k ≡ length old → slice_get mid k ≡ Some z → z.feed ≡ want.feed
+        new_feed : (more : (new_one : Class) × (mid ≡ old ++ new_one ∷ []) × (new_one.uses.items ≡ [])
+            × (number ≡ length old) × ((k : ℕ) (other : Class) → slice_get old k ≡ Some other
+            → other.feed ≢ want.feed)) (z : Class) (k : ℕ) → k ≡ length old → slice_get mid k ≡ Some z
+            → z.feed ≡ want.feed
         new_feed more z k last z_at = ap (λ (q : Class). q.feed) (same_Some z is.has.one (sym z_at ∙ ap (slice_get mid) (last ∙ sym more.3) ∙ is.has.is)) ∙ is.has.same
 
-        by : (more : (new_one : Class) × (mid ≡ old ++ new_one ∷ []) × (new_one.uses.items ≡ []) × (number ≡ length old) × ((k : ℕ) (other : Class) → slice_get old k ≡ Some other → other.feed ≢ want.feed))
-            → ((c < length old) × (slice_get old c ≡ Some x)) ⊎ ((c ≡ length old) × (◌≡◌ {A = Class} more.0 x)) → ((d < length old) × (slice_get old d ≡ Some y)) ⊎ ((d ≡ length old) × (◌≡◌ {A = Class} more.0 y)) → x.feed ≢ y.feed
+        by : (more : (new_one : Class) × (mid ≡ old ++ new_one ∷ []) × (new_one.uses.items ≡ [])
+            × (number ≡ length old)
+            × ((k : ℕ) (other : Class) → slice_get old k ≡ Some other → other.feed ≢ want.feed))
+            → ((c < length old) × (slice_get old c ≡ Some x)) ⊎ ((c ≡ length old) × (◌≡◌ {A = Class} more.0 x))
+            → ((d < length old) × (slice_get old d ≡ Some y)) ⊎ ((d ≡ length old) × (◌≡◌ {A = Class} more.0 y))
+            → x.feed ≢ y.feed
         by more (inl c_front) (inl d_front) = folded.differ c d x y less c_front.1 d_front.1
         by more (inl c_front) (inr d_last) =
             let last_feed : y.feed ≡ want.feed = new_feed more y d d_last.0 d_at in
@@ -311,7 +345,9 @@ module _ (old mid new : List Class) (want : Want) (number place : ℕ) (one now 
           | inl less ↦ sound_mid net wanted are c x (sym (elsewhere c (λ e. absurd (omega (arith, less, e)))) ∙ there) (λ e. absurd (omega (arith, less, e)))
           | inr more ↦ elim (cases_lt number c) [
             | inl past ↦ sound_mid net wanted are c x (sym (elsewhere c (λ e. absurd (omega (arith, past, e)))) ∙ there) (λ e. absurd (omega (arith, past, e)))
-            | inr equal ↦ subst (λ (y : Class). IsClass net y) (same_Some now x (sym here ∙ ap (slice_get new) (let e : number ≡ c = omega (arith, more, equal) in e) ∙ there)) (asked_now net wanted are)
+            | inr equal ↦ subst (λ (y : Class). IsClass net y)
+                (same_Some now x (sym here ∙ ap (slice_get new)
+                (let e : number ≡ c = omega (arith, more, equal) in e) ∙ there)) (asked_now net wanted are)
           ]
         ];
       };
@@ -322,7 +358,8 @@ module _ (old mid new : List Class) (want : Want) (number place : ℕ) (one now 
 take_one : (wants : List Want) (count : ℕ) (want : Want) → slice_get wants count ≡ Some want → take (count + 1) wants ≡ take count wants ++ want ∷ []
 take_one wants count want at =
     let next : count + 1 ≡ suc count = omega arith in
-    ap (λ (n : ℕ). take n wants) next ∙ take-suc wants count want (slice_get_within wants count want at) ∙ ap (λ (w : Want). take count wants ++ w ∷ []) (get_or_from_slice_get wants count want want at)
+    ap (λ (n : ℕ). take n wants) next ∙ take-suc wants count want (slice_get_within wants count want at)
+    ∙ ap (λ (w : Want). take count wants ++ w ∷ []) (get_or_from_slice_get wants count want want at)
 
 pub seated_none : (wants : List Want) → AreSeated wants [] [] 0
 seated_none wants = record {
@@ -337,7 +374,9 @@ seat_later old new want seat keeps is =
     let more = keeps.each seat.class is.one is.is in
     record { one = more.one; is = more.is; same = more.keeps.same ∙ is.same; at = more.keeps.uses seat.place want.to is.at }
 
-pub seated_more : (wants : List Want) (old new : List Class) (seats : List Seat) (count : ℕ) (want : Want) (seat : Seat) → AreSeated wants old seats count → slice_get wants count ≡ Some want → IsSeated old new want seat → AreSeated wants new (seats ++ seat ∷ []) (count + 1)
+pub seated_more : (wants : List Want) (old new : List Class) (seats : List Seat) (count : ℕ) (want : Want)
+    (seat : Seat) → AreSeated wants old seats count → slice_get wants count ≡ Some want → IsSeated old new want seat
+    → AreSeated wants new (seats ++ seat ∷ []) (count + 1)
 seated_more wants old new seats count want seat are at is = record {
   size = length-append seats (seat ∷ []) ∙ omega (arith, are.size);
   each = λ k w s here there. elim (split-last seats seat s k there) [

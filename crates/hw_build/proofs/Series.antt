@@ -33,16 +33,40 @@ pub record IsForm (make : ℕ → NetKind) (frame : Frame) (others : List ℕ) (
   pub alone : (x : ℕ) → reads_now (make x) ≡ []
   pub fits : (c : Circuit) (x : ℕ) → HasWord c.nets x width signed → IsKind c.nets c.cycles (length c.inputs) width signed (make x)
 
-pub register_form : (enabled : Option Enabled) (frame : Frame) (slot : ℕ) (first : ℤ) (width : ℕ) (signed : Bool) → 0 < frame.period → InWord width signed first → IsForm (register_of enabled frame slot first) frame (enables_by enabled) width signed
-register_form None frame slot first width signed some has = record { frame_is = λ x. refl; counts = λ x. refl; holds = λ x. refl; part = λ x. refl; reading = λ x. refl; alone = λ x. refl; fits = λ c x word. (some, word, has) }
-register_form (Some by) frame slot first width signed some has = record { frame_is = λ x. refl; counts = λ x. refl; holds = λ x. refl; part = λ x. refl; reading = λ x. refl; alone = λ x. refl; fits = λ c x word. (some, word, has) }
+pub register_form : (enabled : Option Enabled) (frame : Frame) (slot : ℕ) (first : ℤ) (width : ℕ) (signed : Bool)
+    → 0 < frame.period → InWord width signed first
+    → IsForm (register_of enabled frame slot first) frame (enables_by enabled) width signed
+register_form None frame slot first width signed some has =
+    record {
+      frame_is = λ x. refl;
+      counts = λ x. refl;
+      holds =
+          λ x. refl;
+      part = λ x. refl;
+      reading = λ x. refl;
+      alone = λ x. refl;
+      fits = λ c x word. (some, word, has);
+    }
+register_form (Some by) frame slot first width signed some has =
+    record {
+      frame_is = λ x. refl;
+      counts = λ x. refl;
+      holds =
+          λ x. refl;
+      part = λ x. refl;
+      reading = λ x. refl;
+      alone = λ x. refl;
+      fits = λ c x word. (some, word, has);
+    }
 
 module _ (make : ℕ → NetKind) (frame : Frame) (others : List ℕ) (word : Word) (from : ℕ) (form : IsForm make frame others word.width word.signed) (is_word : IsWord word.width word.signed) where
   abbrev Named : List ℕ
   Named = others ++ from ∷ []
 
   -- none yet
-  pub series_begun : (a b : Circuit) (number begin : ℕ) → 0 < frame.period → IsCounted a b frame → counter_of b.nets frame ≡ Some number → HasWord a.nets from word.width word.signed → begin ≡ length b.nets → AreSeries make a b Named frame word from begin 0
+  pub series_begun : (a b : Circuit) (number begin : ℕ) → 0 < frame.period → IsCounted a b frame
+      → counter_of b.nets frame ≡ Some number → HasWord a.nets from word.width word.signed → begin ≡ length b.nets
+      → AreSeries make a b Named frame word from begin 0
   series_begun a b number begin some counted found has is =
       let grows = counter-grows a b frame some counted Named (IsOfFrame frame) refl in
       record {

@@ -18,10 +18,14 @@ use Rattle.hw_build.proofs.Assembly.{facts_build}
 use Rattle.hw_build.proofs.InputWaves.{inputs_driven}
 
 module _ (built_shown : BuiltIsShown) (stages_shown : StagesAreShown) (listing : InputsAreListed) (valid : TypesAreValid) where
-  module _ (diagram : Diagram) (order : List ℕ) (timing : Timing) (places : Places) (hubs : ℕ) (netlist : Circuit) (ordered : IsOrdered diagram order) (timed : IsTimed diagram (attributes_of diagram) timing) (wide : LateAreWide diagram)
+  module _ (diagram : Diagram) (order : List ℕ) (timing : Timing) (places : Places) (hubs : ℕ) (netlist : Circuit)
+      (ordered : IsOrdered diagram order) (timed : IsTimed diagram (attributes_of diagram) timing)
+      (wide : LateAreWide diagram)
       (facts : HaveFacts diagram timing places hubs hubs netlist (length diagram.blocks))
     where
-      pub design : (stimulus : Stimulus) (n clocks : ℕ) (inputs : Inputs) (rows : Rows) (table : Table) → IsRunOf diagram netlist stimulus n clocks inputs rows table → IsDesign diagram order stimulus timing clocks n table (waves_of places rows)
+      pub design : (stimulus : Stimulus) (n clocks : ℕ) (inputs : Inputs) (rows : Rows) (table : Table)
+          → IsRunOf diagram netlist stimulus n clocks inputs rows table
+          → IsDesign diagram order stimulus timing clocks n table (waves_of places rows)
       design stimulus n clocks inputs rows table run = record {
         ordered = ordered;
         timed = timed;
@@ -33,7 +37,9 @@ module _ (built_shown : BuiltIsShown) (stages_shown : StagesAreShown) (listing :
 
       pub tables_shown : ShowsTables diagram timing netlist places
       tables_shown = record {
-        elements = λ stimulus n clocks inputs rows table run block b port element shown. built_shown diagram order stimulus timing clocks n table (waves_of places rows) (design stimulus n clocks inputs rows table run) block b port element shown;
+        elements = λ stimulus n clocks inputs rows table run block b port element shown. built_shown diagram order
+            stimulus timing clocks n table (waves_of places rows)
+            (design stimulus n clocks inputs rows table run) block b port element shown;
         stages = λ stimulus n clocks inputs rows table run block b port element stage period shown is below.
             stages_shown diagram order stimulus timing clocks n table (waves_of places rows) (design stimulus n clocks inputs rows table run) block b port element stage period shown is below;
       }

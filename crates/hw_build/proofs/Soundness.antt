@@ -65,7 +65,8 @@ module _ (closed hubs : ℕ) (now later : Circuit) (goes : GoesOn closed hubs no
   parts_later inputs args Choose there has = tt
   parts_later inputs args (Slice high low) there has = bits_later args high low there has
 
-  products_later : (left right width : ℕ) (signed : Bool) → left < length now.nets → right < length now.nets → HoldsProducts now.nets left right width signed → HoldsProducts later.nets left right width signed
+  products_later : (left right width : ℕ) (signed : Bool) → left < length now.nets → right < length now.nets
+      → HoldsProducts now.nets left right width signed → HoldsProducts later.nets left right width signed
   products_later left right width signed there too has = record {
     holds = λ one other e f x y in_one in_other.
         let a = word_before left one there e in
@@ -75,12 +76,17 @@ module _ (closed hubs : ℕ) (now later : Circuit) (goes : GoesOn closed hubs no
         (subst (λ (w : ℕ). InWord w b.net.signed y) (sym b.wide) (subst (λ (s : Bool). InWord other.width s y) (sym b.sign) in_other));
   }
 
-  kind_later : (cycles inputs width : ℕ) (signed : Bool) (kind : NetKind) → All (λ read. read < length now.nets) (reads kind) → IsKind now.nets cycles inputs width signed kind → IsKind later.nets cycles inputs width signed kind
+  kind_later : (cycles inputs width : ℕ) (signed : Bool) (kind : NetKind)
+      → All (λ read. read < length now.nets) (reads kind) → IsKind now.nets cycles inputs width signed kind
+      → IsKind later.nets cycles inputs width signed kind
   kind_later cycles inputs width signed (Comb op args) there has = (has.0, parts_later inputs args op there has.1)
   kind_later cycles inputs width signed (Reg frame slot first from) there has = (has.0, word_later closed hubs now later from width signed goes has.1, has.2)
   kind_later cycles inputs width signed (EnReg frame enable reset first from) there has = (has.0, word_later closed hubs now later from width signed goes has.1, has.2)
   kind_later cycles inputs width signed (Bridge frame live from) there has = (has.0, has.1, word_later closed hubs now later from width signed goes has.2)
-  kind_later cycles inputs width signed (Unit left right) there has = products_later left right width signed (held (λ (x : ℕ). x < length now.nets) (left ∷ right ∷ []) 0 left there refl) (held (λ (x : ℕ). x < length now.nets) (left ∷ right ∷ []) 1 right there refl) has
+  kind_later cycles inputs width signed (Unit left right) there has =
+      products_later left right width signed
+      (held (λ (x : ℕ). x < length now.nets) (left ∷ right ∷ []) 0 left there refl)
+      (held (λ (x : ℕ). x < length now.nets) (left ∷ right ∷ []) 1 right there refl) has
   kind_later cycles inputs width signed (Counter frame) there has = has
 
 -- more input ports do no harm
@@ -144,7 +150,9 @@ counter_there : (nets : List Net) (start : ℕ) (frame : Frame) → IsSome (coun
 counter_there [] start frame some = absurd (false≢true some)
 counter_there (x ∷ nets) start frame some = go (is_frame frame (counted_frame x.kind)) refl (counter_there nets (start + 1) frame) some
   where
-    go : (b : Bool) → is_frame frame (counted_frame x.kind) ≡ b → (IsSome (counter_from nets (start + 1) frame) → IsFound nets frame) → IsSome (cond b (Some start) (counter_from nets (start + 1) frame)) → IsFound (x ∷ nets) frame
+    go : (b : Bool) → is_frame frame (counted_frame x.kind) ≡ b
+        → (IsSome (counter_from nets (start + 1) frame) → IsFound nets frame)
+        → IsSome (cond b (Some start) (counter_from nets (start + 1) frame)) → IsFound (x ∷ nets) frame
     go true e rest h = record { place = 0; net = x; at = refl; counts = is_frame_of frame (counted_frame x.kind) e }
     go false e rest h = let found = rest h in record { place = suc found.place; net = found.net; at = found.at; counts = found.counts }
 
@@ -163,13 +171,16 @@ module _ (closed hubs : ℕ) (now later : Circuit) (goes : GoesOn closed hubs no
   pub sound_later : (inputs : ℕ) (net : Net) → IsSoundNet now inputs net → IsSoundNet later inputs net
   sound_later inputs net is = record {
     word = is.word;
-    kind = subst (λ (c : ℕ). IsKind later.nets c inputs net.width net.signed net.kind) (sym goes.cycles) (kind_later closed hubs now later goes now.cycles inputs net.width net.signed net.kind is.there is.kind);
+    kind = subst (λ (c : ℕ). IsKind later.nets c inputs net.width net.signed net.kind) (sym goes.cycles)
+        (kind_later closed hubs now later goes now.cycles inputs net.width net.signed net.kind is.there is.kind);
     there = λ i d within. still_within closed hubs now later goes (slice_index_or (reads net.kind) i d) (is.there i d within);
     counted = λ frame names. counter_later frame (is.counted frame names);
   }
 
 -- nets that a call puts in are sound
-pub sound_by_call : (closed hubs : ℕ) (before after : Circuit) (named : List ℕ) (inputs : ℕ) → hubs ≤ length before.nets → length after.inputs ≤ inputs → Appends before after named → AreSound closed hubs before inputs → AreSound closed hubs after inputs
+pub sound_by_call : (closed hubs : ℕ) (before after : Circuit) (named : List ℕ) (inputs : ℕ)
+    → hubs ≤ length before.nets → length after.inputs ≤ inputs → Appends before after named
+    → AreSound closed hubs before inputs → AreSound closed hubs after inputs
 sound_by_call closed hubs before after named inputs small few appends sound = record {
   each = λ k net at. elim (cases_lt k (length before.nets)) [
     | inl inside ↦ elim (sound.each k net (stood-there before after k net appends.extends inside at)) [
@@ -183,7 +194,9 @@ sound_by_call closed hubs before after named inputs small few appends sound = re
 }
 
 -- so is a hub that gets its argument
-pub sound_by_connect : (closed hubs : ℕ) (before after : Circuit) (argument inputs : ℕ) (old : List ℕ) (is : IsConnected before after closed argument) → is.net.kind ≡ Comb Resize old → closed < hubs → argument < length before.nets → IsWord is.net.width is.net.signed
+pub sound_by_connect : (closed hubs : ℕ) (before after : Circuit) (argument inputs : ℕ) (old : List ℕ)
+    (is : IsConnected before after closed argument) → is.net.kind ≡ Comb Resize old → closed < hubs
+    → argument < length before.nets → IsWord is.net.width is.net.signed
     → AreSound closed hubs before inputs → AreSound (suc closed) hubs after inputs
 sound_by_connect closed hubs before after argument inputs old is kind high there word sound =
     let goes = goes_connected closed hubs before after closed argument old is kind (omega arith) high in
@@ -201,7 +214,10 @@ sound_by_connect closed hubs before after argument inputs old is kind high there
           ]
           | inr same ↦
               let e : k ≡ closed = omega (arith, more, same) in
-              let own : ◌≡◌ {A = Net} (given is.net argument) net = same_Some (given is.net argument) net (sym (connected_here before after closed argument is) ∙ ap (slice_get after.nets) (sym e) ∙ at) in
+              let own : ◌≡◌ {A = Net} (given is.net argument) net =
+              same_Some (given is.net argument) net
+              (sym (connected_here before after closed argument is) ∙ ap (slice_get after.nets) (sym e)
+              ∙ at) in
               inr (subst (IsSoundNet after inputs) own (record {
                 word = word;
                 kind = (refl, tt);

@@ -64,7 +64,10 @@ output_shown diagram block b port wired at from to =
     let ports = plain_ports (row_of b.kind).place.role b.outputs other in
     (omega (arith, ports, to), plain_width diagram (attributes_of diagram) (row_of b.kind).place.role block port other)
 
-pub output_element : (diagram : Diagram) (block : ℕ) (b : Block) (port element : ℕ) → IsWired diagram → slice_get diagram.blocks block ≡ Some b → 1 ≤ port → port ≤ b.outputs → element < (attributes_of diagram).width_at block port → IsShown diagram (attributes_of diagram) block b port element
+pub output_element : (diagram : Diagram) (block : ℕ) (b : Block) (port element : ℕ) → IsWired diagram
+    → slice_get diagram.blocks block ≡ Some b → 1 ≤ port → port ≤ b.outputs
+    → element < (attributes_of diagram).width_at block port
+    → IsShown diagram (attributes_of diagram) block b port element
 output_element diagram block b port element wired at from to below =
     let shown = output_shown diagram block b port wired at from to in
     let width = shown.1 in
@@ -83,7 +86,9 @@ source_is diagram number edge wired at =
     let found = matched (slice_get diagram.blocks edge.from) (λ (b : Block). (1 ≤ edge.from_port) × (edge.from_port ≤ b.outputs)) (joins diagram number edge wired at).source in
     record { source = found.0; is = found.1; port_from = found.2.0; port_to = found.2.1 }
 
-pub source_element : (diagram : Diagram) (edge : Edge) (element : ℕ) → IsWired diagram → (of : IsSourceOf diagram edge) → element < (attributes_of diagram).width_at edge.from edge.from_port → IsShown diagram (attributes_of diagram) edge.from of.source edge.from_port element
+pub source_element : (diagram : Diagram) (edge : Edge) (element : ℕ) → IsWired diagram
+    → (of : IsSourceOf diagram edge) → element < (attributes_of diagram).width_at edge.from edge.from_port
+    → IsShown diagram (attributes_of diagram) edge.from of.source edge.from_port element
 source_element diagram edge element wired of below = output_element diagram edge.from of.source edge.from_port element wired of.is of.port_from of.port_to below
 
 -- the element that serves one of a line is there
@@ -94,14 +99,21 @@ serves_by_lag source own element (Some l) wide below = elim (wide l refl) [
   | inr same ↦ repeated_same source element (omega (arith, same, below))
 ]
 
-serves_by : (source own element : ℕ) (lags : ℕ → Option ℕ) (period : Option ℕ) → ((p l : ℕ) → lags p ≡ Some l → (source ≡ 1) ⊎ (source ≡ own)) → element < count_by source own lags period → repeated source element < source
+serves_by : (source own element : ℕ) (lags : ℕ → Option ℕ) (period : Option ℕ)
+    → ((p l : ℕ) → lags p ≡ Some l → (source ≡ 1) ⊎ (source ≡ own)) → element < count_by source own lags period
+    → repeated source element < source
 serves_by source own element lags None wide below = repeated_same source element below
 serves_by source own element lags (Some p) wide below = serves_by_lag source own element (lags p) (λ l e. wide p l e) below
 
-pub serves : (diagram : Diagram) → LateAreWide diagram → (block : ℕ) (b : Block) (port element : ℕ) (edge : Edge) → slice_get diagram.blocks block ≡ Some b → 1 ≤ port → port ≤ b.inputs → driver_of diagram block port ≡ Some edge → element < line_count diagram block b port edge
+pub serves : (diagram : Diagram) → LateAreWide diagram → (block : ℕ) (b : Block) (port element : ℕ) (edge : Edge)
+    → slice_get diagram.blocks block ≡ Some b → 1 ≤ port → port ≤ b.inputs
+    → driver_of diagram block port ≡ Some edge → element < line_count diagram block b port edge
     → repeated ((attributes_of diagram).width_at edge.from edge.from_port) element < (attributes_of diagram).width_at edge.from edge.from_port
 serves diagram wide block b port element edge at from to drives below =
-    serves_by ((attributes_of diagram).width_at edge.from edge.from_port) ((attributes_of diagram).width_at block 1) element (lag_into diagram (attributes_of diagram) block b (Port port)) ((attributes_of diagram).period_at edge.from)
+    serves_by ((attributes_of diagram).width_at edge.from edge.from_port)
+    ((attributes_of diagram).width_at block 1) element
+    (lag_into diagram (attributes_of diagram) block b (Port port))
+    ((attributes_of diagram).period_at edge.from)
     (λ p l e. (wide.each block b port p l edge at from to drives e).1) below
 
 -- ---- controls
@@ -122,17 +134,23 @@ pub record IsControlOf (diagram : Diagram) (control : ℕ) : Type 0 where
 
 pub control_is : (diagram : Diagram) (block : ℕ) (b : Block) (control : ℕ) → IsChecked diagram → slice_get diagram.blocks block ≡ Some b → b.enable ≡ Some control → IsControlOf diagram control
 control_is diagram block b control checked at enable =
-    let names = subst (λ (x : Block). NamesControl diagram.blocks x.enable) (get_or_from_slice_get diagram.blocks block b b at) (checked.wired.controls block b (slice_get_within diagram.blocks block b at)) in
+    let names = subst (λ (x : Block). NamesControl diagram.blocks x.enable)
+    (get_or_from_slice_get diagram.blocks block b b at)
+    (checked.wired.controls block b (slice_get_within diagram.blocks block b at)) in
     let found = matched (slice_get diagram.blocks control) (λ (c : Block). (row_of c.kind).place.role ≡ Role.Control) (subst (λ (o : Option ℕ). NamesControl diagram.blocks o) enable names) in
     let c : Block = found.0 in
     let own : ℕ = width_at (widths_of diagram) control 1 in
     let inputs : List ℕ = input_widths diagram (widths_of diagram) control in
-    let settled : next_of (Some c) own inputs ≡ slice_index_or (widths_of diagram) control [] = ap (λ (o : Option Block). next_of o own inputs) (sym found.1) ∙ (checked.dimensions.blocks control c found.1).settled in
+    let settled : next_of (Some c) own inputs ≡ slice_index_or (widths_of diagram) control [] =
+    ap (λ (o : Option Block). next_of o own inputs) (sym found.1)
+    ∙ (checked.dimensions.blocks control c found.1).settled in
     record {
       source = c;
       is = found.1;
       outputs = control_outputs c.kind c.inputs c.outputs (readable_at diagram checked.wired control c found.1).ports found.2;
-      one = ap (λ (xs : List ℕ). slice_index_or xs 0 0) (sym settled) ∙ ap (λ (s : Shape). slice_index_or (map (min most_width) (taken s (list_length c.kind) own inputs)) 0 0) (control_shape c.kind found.2);
+      one = ap (λ (xs : List ℕ). slice_index_or xs 0 0) (sym settled)
+          ∙ ap (λ (s : Shape). slice_index_or (map (min most_width) (taken s (list_length c.kind) own inputs)) 0 0)
+          (control_shape c.kind found.2);
     }
 
 pub control_shown : (diagram : Diagram) (control : ℕ) → IsWired diagram → (of : IsControlOf diagram control) → IsShown diagram (attributes_of diagram) control of.source 1 0
@@ -153,8 +171,12 @@ pub sources_are_shown : (diagram : Diagram) → IsChecked diagram → LateAreWid
 sources_are_shown diagram checked wide = record {
   lines = λ block b port element edge at showing from to drives below.
       let found = found_at (enters block port) diagram.edges edge drives in
-      let of = source_is diagram found.0 edge checked.wired found.1 in
-      (of.source, source_element diagram edge (repeated ((attributes_of diagram).width_at edge.from edge.from_port) element) checked.wired of (serves diagram wide block b port element edge at from to drives below));
+      let of = source_is diagram found.0 edge checked.wired found.1 in (
+        of.source,
+        source_element diagram edge
+            (repeated ((attributes_of diagram).width_at edge.from edge.from_port) element) checked.wired of
+            (serves diagram wide block b port element edge at from to drives below),
+      );
   enables = λ block b control at feeds. let of = control_is diagram block b control checked at feeds.0 in (of.source, control_shown diagram control checked.wired of);
 }
 

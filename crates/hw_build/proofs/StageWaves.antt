@@ -1,5 +1,6 @@
 -- What the registers of a plan behind an element show, and what they leave as it was.
-use Rattle.std.proofs.Common.{◌≡◌, ℕ, zero, suc, ◌+◌, ◌-◌, ◌*◌, ◌<◌, ◌≤◌, ◌++◌, inl, inr, List, [], ◌∷◌, length, Contains, Some, IsSome, ap, sym, ◌∙◌, subst, refl, append_assoc, append-nil, length-append, arith}
+use Rattle.std.proofs.Common.{◌≡◌, ℕ, zero, suc, ◌+◌, ◌-◌, ◌*◌, ◌<◌, ◌≤◌, ◌++◌, inl, inr, List, [], ◌∷◌, length, Contains, Some, IsSome, ap, sym, ◌∙◌, subst, refl, append_assoc, append-nil}
+use Rattle.std.proofs.Common.{length-append, arith}
 use Rattle.std.specs.Prelude.{slice_get}
 use Rattle.std.proofs.lemmas.Bool.{cases_lt}
 use Rattle.std.proofs.lemmas.Option.{none-some, same_Some}
@@ -27,7 +28,9 @@ sole x read (suc i, within, same) = absurd (omega (arith, within))
 -- ---- the nets one by one
 
 -- of nets with registers behind them
-at_stage : (nets : List Net) (type : FxType) (frame : Frame) (slot begin count k : ℕ) → k < count → slice_get (nets ++ stage_nets type frame slot begin count) (length nets + k) ≡ Some (stage_net type frame slot (begin + k))
+at_stage : (nets : List Net) (type : FxType) (frame : Frame) (slot begin count k : ℕ) → k < count
+    → slice_get (nets ++ stage_nets type frame slot begin count) (length nets + k)
+    ≡ Some (stage_net type frame slot (begin + k))
 at_stage nets type frame slot begin zero k below = absurd (omega (arith, below))
 at_stage nets type frame slot begin (suc count) k below =
     let own : List Net = stage_nets type frame slot begin count in
@@ -152,7 +155,16 @@ module _ (timing : Timing) (before after : Circuit) (type : FxType) (block eleme
   staged_found : (count : ℕ) → IsSome (counter_of (staged count).nets frame)
   staged_found count =
       counter-stays adds.counted (staged count) frame
-      (extends-trans adds.counted wired (staged count) wired_extends (record { added = stage_nets type frame slot begin count; nets = refl; cycles = refl; inputs = refl; outputs = refl; labels = refl }))
+      (extends-trans adds.counted wired (staged count) wired_extends
+      (record {
+        added = stage_nets type frame slot begin count;
+        nets =
+            refl;
+        cycles = refl;
+        inputs = refl;
+        outputs = refl;
+        labels = refl;
+      }))
       adds.found
 
   staged_more : (count : ℕ) → length before.nets ≤ begin + count
@@ -166,7 +178,12 @@ module _ (timing : Timing) (before after : Circuit) (type : FxType) (block eleme
       appends-one (staged count) (staged (suc count)) one ((begin + count) ∷ []) (staged_next count)
       (record {
         word = word;
-        kind = (some, word-stays (staged count) (staged (suc count)) (begin + count) (width_of type) (is_signed type) (staged_extends count) (staged_word count), zero-in (width_of type) (is_signed type) word);
+        kind = (
+          some,
+          word-stays (staged count) (staged (suc count)) (begin + count) (width_of type)
+              (is_signed type) (staged_extends count) (staged_word count),
+          zero-in (width_of type) (is_signed type) word,
+        );
         there = one-all (λ read. read < length (staged (suc count)).nets) (begin + count) (omega (arith, next));
         allowed = one-all (MayRead (staged count) (staged (suc count)) ((begin + count) ∷ [])) (begin + count) (inl (0, omega arith, refl));
         now = λ i d within. absurd (omega (arith, within));

@@ -43,22 +43,44 @@ use Rattle.hw_build.proofs.BlockOrder.{in_order, lines_are_placed}
 use Rattle.hw_build.proofs.WithPorts.{with_ports}
 
 -- what lines offer to shared operations has their words
-pub words_stand : (diagram : Diagram) (plan : Resolved) (times : Times) (hubbed lined : Circuit) (firsts : List (List ℕ)) (operands : Operands) → IsChecked diagram → WidthsAreOfEdges → ColumnsComeBack → AreLinesPut diagram plan times hubbed lined firsts operands → OffersWords diagram plan (offered_at diagram operands) lined
+pub words_stand : (diagram : Diagram) (plan : Resolved) (times : Times) (hubbed lined : Circuit)
+    (firsts : List (List ℕ)) (operands : Operands) → IsChecked diagram → WidthsAreOfEdges → ColumnsComeBack
+    → AreLinesPut diagram plan times hubbed lined firsts operands
+    → OffersWords diagram plan (offered_at diagram operands) lined
 words_stand diagram plan times hubbed lined firsts operands checked widths back lines =
     let way = lines.way (line_places diagram firsts operands) (λ block. 0) (lines_are_placed diagram firsts operands checked.wired back) in
-    operands_offer widths diagram checked plan (offered_at diagram operands) (line_places diagram firsts operands) (λ block. 0) (hubs_in_all diagram) lined way.level (λ block port element. refl) way.is.facts.spread way.is.operands
+    operands_offer widths diagram checked plan (offered_at diagram operands) (line_places diagram firsts operands)
+    (λ block. 0) (hubs_in_all diagram) lined way.level
+    (λ block port element. refl) way.is.facts.spread way.is.operands
 
 -- the netlist at which elements begin
-pub steps_begin : (setting : Setting) (start hubbed lined shared : Circuit) → IsChecked setting.design.checked.now.diagram → IsOrder setting.design.checked.now.diagram (attributes_of setting.design.checked.now.diagram) setting.design.checked.now.order → ColumnsComeBack → IsEmptyFor setting.design start
-    → HasHubs setting.design.checked.now.diagram start hubbed setting.firsts.now → AreLinesPut setting.design.checked.now.diagram setting.design.plan.now (times_for setting.design) hubbed lined setting.firsts.now setting.operands.now
-    → AddsProducts setting.design.checked.now.diagram setting.design.plan.now (times_for setting.design) (offered_at setting.design.checked.now.diagram setting.operands.now) lined shared setting.products.now → IsBegun setting shared
-steps_begin setting start hubbed lined shared checked ordered back empty hubs lines multiplied = begun setting start hubbed lined shared (in_order setting.design.checked.now.diagram setting.design.checked.now.order ordered) empty hubs lines multiplied checked.wired back
+pub steps_begin : (setting : Setting) (start hubbed lined shared : Circuit)
+    → IsChecked setting.design.checked.now.diagram
+    → IsOrder setting.design.checked.now.diagram
+    (attributes_of setting.design.checked.now.diagram) setting.design.checked.now.order → ColumnsComeBack
+    → IsEmptyFor setting.design start
+    → HasHubs setting.design.checked.now.diagram start hubbed setting.firsts.now
+    → AreLinesPut setting.design.checked.now.diagram setting.design.plan.now
+    (times_for setting.design) hubbed lined setting.firsts.now setting.operands.now
+    → AddsProducts setting.design.checked.now.diagram setting.design.plan.now (times_for setting.design)
+    (offered_at setting.design.checked.now.diagram setting.operands.now) lined shared setting.products.now
+    → IsBegun setting shared
+steps_begin setting start hubbed lined shared checked ordered back empty hubs lines multiplied =
+    begun setting start hubbed lined shared
+    (in_order setting.design.checked.now.diagram setting.design.checked.now.order ordered) empty hubs lines
+    multiplied checked.wired back
 
-pub steps_set : (setting : Setting) (start hubbed : Circuit) → IsDesigned setting.design → HasHubs setting.design.checked.now.diagram start hubbed setting.firsts.now → AreProducts setting.design.checked.now.diagram setting.design.plan.now setting.products.now → IsSet setting
+pub steps_set : (setting : Setting) (start hubbed : Circuit) → IsDesigned setting.design
+    → HasHubs setting.design.checked.now.diagram start hubbed setting.firsts.now
+    → AreProducts setting.design.checked.now.diagram setting.design.plan.now setting.products.now
+    → IsSet setting
 steps_set setting start hubbed designed hubs products = record { designed = designed; stood = record { earlier = start; later = hubbed; has = hubs }; products_are = products }
 
 -- all steps up to the ports
-pub steps_fill : (setting : Setting) (start hubbed now : Circuit) (spots : Spots) → IsSet setting → IsOrdered setting.design.checked.now.diagram setting.design.checked.now.order → InputsAreListed → OutputsAreListed → HasHubs setting.design.checked.now.diagram start hubbed setting.firsts.now → HasElements setting now spots
+pub steps_fill : (setting : Setting) (start hubbed now : Circuit) (spots : Spots) → IsSet setting
+    → IsOrdered setting.design.checked.now.diagram setting.design.checked.now.order → InputsAreListed
+    → OutputsAreListed → HasHubs setting.design.checked.now.diagram start hubbed setting.firsts.now
+    → HasElements setting now spots
     → IsFilledFor setting.design now setting.firsts.now
 steps_fill setting start hubbed now spots set ordered inputs outputs hubs has = record {
   places = _;
@@ -73,17 +95,28 @@ counted_blocks : (elements : List RootElement) (blocks : List ℕ) → blocks �
 counted_blocks elements blocks are = ap (λ (xs : List ℕ). length xs) are ∙ length-map elements (λ (e : RootElement). e.block)
 
 -- and with the ports
-pub ports_finish : (design : Design) (now middle later : Circuit) (firsts : List (List ℕ)) (inputs outputs : List ℕ) (old names new : Names) → IsDesigned design → InputsAreListed → OutputsAreListed → MovingHavePeriods → PeriodsAreAbove → PeriodsAreShort → IsSmall design → IsFilledFor design now firsts → AreInputBlocks design inputs → AreOutputBlocks design outputs
-    → AreTaken old own_names → AddsInputPorts design.checked.now.diagram old names now middle (length inputs) → AddsOutputs design firsts names new middle later (length outputs) → IsDoneFor design later
+pub ports_finish : (design : Design) (now middle later : Circuit) (firsts : List (List ℕ)) (inputs outputs : List ℕ)
+    (old names new : Names) → IsDesigned design → InputsAreListed → OutputsAreListed → MovingHavePeriods
+    → PeriodsAreAbove → PeriodsAreShort → IsSmall design → IsFilledFor design now firsts
+    → AreInputBlocks design inputs → AreOutputBlocks design outputs
+    → AreTaken old own_names → AddsInputPorts design.checked.now.diagram old names now middle (length inputs)
+    → AddsOutputs design firsts names new middle later (length outputs) → IsDoneFor design later
 ports_finish design now middle later firsts inputs outputs old names new designed inputs_listed outputs_listed moving above short small all are_inputs are_outputs taken ins outs =
     let diagram : Diagram = design.checked.now.diagram in
     let grown : later ≡ with_ports now middle.inputs later.outputs = outs.grown ∙ ap (λ (c : Circuit). record c { outputs = later.outputs }) ins.grown in
-    let in_ports = subst (λ (n : ℕ). ArePortsFor diagram (root_inputs diagram (attributes_of diagram)) (λ block. (attributes_of diagram).width_at block 1) (λ k e. k) (λ block. 0) old names middle.inputs n) (counted_blocks (root_inputs diagram (attributes_of diagram)) inputs are_inputs) ins.ports in
-    let out_ports = subst (λ (n : ℕ). ArePortsFor diagram (root_outputs diagram (attributes_of diagram)) (λ block. width_into diagram (attributes_of diagram) block 1) (λ k e. hub_at firsts e.block 1 e.element) (declared_latency diagram (attributes_of diagram) design.plan.now (times_for design)) names new later.outputs n)
+    let in_ports = subst (λ (n : ℕ). ArePortsFor diagram (root_inputs diagram (attributes_of diagram))
+    (λ block. (attributes_of diagram).width_at block 1) (λ k e. k) (λ block. 0) old names middle.inputs n)
+    (counted_blocks (root_inputs diagram (attributes_of diagram)) inputs are_inputs) ins.ports in
+    let out_ports = subst (λ (n : ℕ). ArePortsFor diagram (root_outputs diagram (attributes_of diagram))
+    (λ block. width_into diagram (attributes_of diagram) block 1) (λ k e. hub_at firsts e.block 1 e.element)
+    (declared_latency diagram (attributes_of diagram) design.plan.now (times_for design)) names new
+    later.outputs n)
     (counted_blocks (root_outputs diagram (attributes_of diagram)) outputs are_outputs) outs.ports
     in
     record {
       places = all.places;
       done = subst (λ (c : Circuit). IsDone diagram design.plan.now (times_for design) all.places (hubs_in_all diagram) c) (sym grown)
-          (is_done diagram design.plan.now (times_for design) firsts all.places all.place_of now all.filled designed.scheduled.checked inputs_listed outputs_listed old names new middle.inputs later.outputs in_ports out_ports taken all.inputs designed.scheduled.planned moving above short small);
+          (is_done diagram design.plan.now (times_for design) firsts all.places all.place_of now all.filled
+          designed.scheduled.checked inputs_listed outputs_listed old names new middle.inputs later.outputs
+          in_ports out_ports taken all.inputs designed.scheduled.planned moving above short small);
     }

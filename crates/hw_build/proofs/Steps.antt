@@ -53,7 +53,8 @@ is_resize (Unit left right) = false
 is_resize (Counter frame) = false
 
 -- a net that is no Resize stays for good
-pub stays : (closed hubs : ℕ) (now later : Circuit) (number : ℕ) (net : Net) → GoesOn closed hubs now later → slice_get now.nets number ≡ Some net → is_resize net.kind ≡ false → slice_get later.nets number ≡ Some net
+pub stays : (closed hubs : ℕ) (now later : Circuit) (number : ℕ) (net : Net) → GoesOn closed hubs now later
+    → slice_get now.nets number ≡ Some net → is_resize net.kind ≡ false → slice_get later.nets number ≡ Some net
 stays closed hubs now later number net goes at other = elim (goes.nets number (slice_get_within now.nets number net at)) [
   | inl kept ↦ kept ∙ at
   | inr changed ↦
@@ -71,7 +72,10 @@ inputs_later diagram places closed hubs now later goes have = record {
 
 -- ---- all facts
 
-pub facts_later : (diagram : Diagram) (timing : Timing) (places : Places) (closed more hubs : ℕ) (now later : Circuit) (count : ℕ) → closed ≤ more → GoesOn closed hubs now later → HaveFacts diagram timing places closed hubs now count → HaveFacts diagram timing places more hubs later count
+pub facts_later : (diagram : Diagram) (timing : Timing) (places : Places) (closed more hubs : ℕ)
+    (now later : Circuit) (count : ℕ) → closed ≤ more → GoesOn closed hubs now later
+    → HaveFacts diagram timing places closed hubs now count
+    → HaveFacts diagram timing places more hubs later count
 facts_later diagram timing places closed more hubs now later count less goes facts = record {
   cycles = goes.cycles ∙ facts.cycles;
   spread = facts.spread;
@@ -79,20 +83,29 @@ facts_later diagram timing places closed more hubs now later count less goes fac
   lines = record {
     each = λ block b port element edge at showing from to drives below.
         later_on closed more hubs now later
-        (λ n rows. IsOffered n timing edge.from ((attributes_of diagram).period_at edge.from) block ((attributes_of diagram).period_at block) (lag_into diagram (attributes_of diagram) block b (Port port)) (places.first block element)
+        (λ n rows. IsOffered n timing edge.from ((attributes_of diagram).period_at edge.from) block
+        ((attributes_of diagram).period_at block) (lag_into diagram (attributes_of diagram) block b (Port port))
+        (places.first block element)
         (rows (places.after edge.from edge.from_port (repeated ((attributes_of diagram).width_at edge.from edge.from_port) element))) (rows (places.offered block port element)))
         less goes (facts.lines.each block b port element edge at showing from to drives below);
   };
   enables = record {
     each = λ block b control at feeds.
         later_on closed more hubs now later
-        (λ n rows. IsOffered n timing control ((attributes_of diagram).period_at control) block ((attributes_of diagram).period_at block) (lag_into diagram (attributes_of diagram) block b Enable) (pos 0) (rows (places.after control 1 0)) (rows (places.enable block)))
+        (λ n rows. IsOffered n timing control ((attributes_of diagram).period_at control) block
+        ((attributes_of diagram).period_at block) (lag_into diagram (attributes_of diagram) block b Enable)
+        (pos 0) (rows (places.after control 1 0)) (rows (places.enable block)))
         less goes (facts.enables.each block b control at feeds);
   };
   elements = record {
-    made = λ block b port element early shown. later_on closed more hubs now later (λ n rows. IsMadeAs diagram (attributes_of diagram) timing n (waves_of places rows) b.kind block b port element) less goes (facts.elements.made block b port element early shown);
+    made = λ block b port element early shown. later_on closed more hubs now later
+        (λ n rows. IsMadeAs diagram (attributes_of diagram) timing n
+        (waves_of places rows) b.kind block b port element) less goes
+        (facts.elements.made block b port element early shown);
     piped = λ block b port element early shown.
-        later_on closed more hubs now later (λ n rows. IsPiped diagram (attributes_of diagram) timing n (waves_of places rows) ((attributes_of diagram).period_at block) block port element) less goes (facts.elements.piped block b port element early shown);
+        later_on closed more hubs now later (λ n rows. IsPiped diagram (attributes_of diagram) timing n
+        (waves_of places rows) ((attributes_of diagram).period_at block) block port element) less goes
+        (facts.elements.piped block b port element early shown);
   };
 }
 
@@ -101,14 +114,22 @@ facts_later diagram timing places closed more hubs now later count less goes fac
 module _ (diagram : Diagram) (timing : Timing) (places : Places) (closed hubs : ℕ) (now : Circuit) (block port element : ℕ) where
   pub piped_some : (period : ℕ) → (attributes_of diagram).period_at block ≡ Some period
       → InLater closed hubs now (λ n rows. AreSame n (rows (places.after block port element)) (rows (places.stage block port element (timing.stages block))))
-      → InLater closed hubs now (λ n rows. IsSeries n (span_at timing period block) (timing.stages block) (pos 0) (rows (places.entry block port element)) (λ k. rows (places.stage block port element k)))
+      → InLater closed hubs now (λ n rows. IsSeries n (span_at timing period block) (timing.stages block) (pos 0)
+      (rows (places.entry block port element)) (λ k. rows (places.stage block port element k)))
       → IsElementPiped diagram timing places closed hubs now block port element
   piped_some period is same series = record {
     holds = λ later goes n inputs rows are.
-        subst (λ (p : Option ℕ). IsPiped diagram (attributes_of diagram) timing n (waves_of places rows) p block port element) (sym is) (same.holds later goes n inputs rows are, series.holds later goes n inputs rows are);
+        subst (λ (p : Option ℕ). IsPiped diagram (attributes_of diagram) timing n
+        (waves_of places rows) p block port element) (sym is)
+        (same.holds later goes n inputs rows are, series.holds later goes n inputs rows are);
   }
 
-  pub piped_none : (attributes_of diagram).period_at block ≡ None → InLater closed hubs now (λ n rows. AreSame n (rows (places.after block port element)) (rows (places.entry block port element))) → IsElementPiped diagram timing places closed hubs now block port element
+  pub piped_none : (attributes_of diagram).period_at block ≡ None
+      → InLater closed hubs now (λ n rows. AreSame n (rows (places.after block port element))
+      (rows (places.entry block port element)))
+      → IsElementPiped diagram timing places closed hubs now block port element
   piped_none is same = record {
-    holds = λ later goes n inputs rows are. subst (λ (p : Option ℕ). IsPiped diagram (attributes_of diagram) timing n (waves_of places rows) p block port element) (sym is) (same.holds later goes n inputs rows are);
+    holds = λ later goes n inputs rows are. subst
+        (λ (p : Option ℕ). IsPiped diagram (attributes_of diagram) timing n
+        (waves_of places rows) p block port element) (sym is) (same.holds later goes n inputs rows are);
   }

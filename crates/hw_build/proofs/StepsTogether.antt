@@ -42,11 +42,14 @@ use Rattle.math_list.proofs.Places.{get_some}
 -- ---- lists of nets that go on
 
 -- what is gathered of nets that are the same there, or give nothing, stays
-pub same_gathered : (f : NetKind → List Factors) (xs ys : List Net) → ((k : ℕ) (x : Net) → slice_get xs k ≡ Some x → (y : Net) × (slice_get ys k ≡ Some y) × (f y.kind ≡ f x.kind)) → ((k : ℕ) (y : Net) → length xs ≤ k → slice_get ys k ≡ Some y → f y.kind ≡ [])
+pub same_gathered : (f : NetKind → List Factors) (xs ys : List Net)
+    → ((k : ℕ) (x : Net) → slice_get xs k ≡ Some x → (y : Net) × (slice_get ys k ≡ Some y) × (f y.kind ≡ f x.kind))
+    → ((k : ℕ) (y : Net) → length xs ≤ k → slice_get ys k ≡ Some y → f y.kind ≡ [])
     → flat_map (λ (net : Net). f net.kind) ys ≡ flat_map (λ (net : Net). f net.kind) xs
 same_gathered f [] [] kept plain = refl
 same_gathered f [] (y ∷ ys) kept plain =
-    ap (λ (front : List Factors). front ++ flat_map (λ (net : Net). f net.kind) ys) (plain 0 y (omega arith) refl) ∙ same_gathered f [] ys (λ k x at. absurd (none-some x at)) (λ k z low at. plain (suc k) z (omega arith) at)
+    ap (λ (front : List Factors). front ++ flat_map (λ (net : Net). f net.kind) ys) (plain 0 y (omega arith) refl)
+    ∙ same_gathered f [] ys (λ k x at. absurd (none-some x at)) (λ k z low at. plain (suc k) z (omega arith) at)
 same_gathered f (x ∷ xs) [] kept plain = let h = kept 0 x refl in absurd (none-some h.0 h.1)
 same_gathered f (x ∷ xs) (y ∷ ys) kept plain =
     let here = kept 0 x refl in
@@ -114,8 +117,13 @@ line_plain (Counter frame) is = (refl, refl)
 
 -- ---- all steps
 
-module _ (diagram : Diagram) (plan : Resolved) (times : Times) (place_of : ℕ → ℕ) (order : ArePlacedInOrder diagram place_of) (firsts : List (List ℕ)) (operands : Operands) (products : Products) (start hubbed lined shared : Circuit) (none : start.nets ≡ []) (no_inputs : start.inputs ≡ []) (no_outputs : start.outputs ≡ []) (no_labels : start.labels ≡ [])
-    (hubs : HasHubs diagram start hubbed firsts) (lines : AreLinesPut diagram plan times hubbed lined firsts operands) (multiplied : AddsProducts diagram plan times (offered_at diagram operands) lined shared products) where
+module _ (diagram : Diagram) (plan : Resolved) (times : Times) (place_of : ℕ → ℕ)
+    (order : ArePlacedInOrder diagram place_of) (firsts : List (List ℕ)) (operands : Operands) (products : Products)
+    (start hubbed lined shared : Circuit) (none : start.nets ≡ []) (no_inputs : start.inputs ≡ [])
+    (no_outputs : start.outputs ≡ []) (no_labels : start.labels ≡ [])
+    (hubs : HasHubs diagram start hubbed firsts)
+    (lines : AreLinesPut diagram plan times hubbed lined firsts operands)
+    (multiplied : AddsProducts diagram plan times (offered_at diagram operands) lined shared products) where
   abbrev pub roots : ℕ
   roots = length (root_inputs diagram (attributes_of diagram))
 
@@ -161,7 +169,10 @@ module _ (diagram : Diagram) (plan : Resolved) (times : Times) (place_of : ℕ �
       late = record {
         each = λ block b port element edge source lag at showing from to drives below moves lags.
             let word = ready_way.is.operands.there block b port element edge at showing from to drives below in
-            shared_way.same (places.offered block port element) (slice_get_within lined.nets (places.offered block port element) word.net word.is) ∙ ready_way.late.each block b port element edge source lag at showing from to drives below moves lags;
+            shared_way.same (places.offered block port element)
+            (slice_get_within lined.nets (places.offered block port element) word.net word.is)
+            ∙ ready_way.late.each block b port element edge source lag at showing from to drives below moves
+            lags;
       };
       products = shared_way.products;
       low = record { each = shared_way.low };
@@ -190,7 +201,9 @@ module _ (diagram : Diagram) (plan : Resolved) (times : Times) (place_of : ℕ �
       frame_stands diagram plan times is.block frame (record { there = is.there; period_is = is.moves; latency_is = inl is.latency_is }))
 
   grown_by : (a b : Circuit) → Extends a b → length a.nets ≤ length b.nets
-  grown_by a b extends = let e : length b.nets ≡ length (a.nets ++ extends.added) = ap (λ (nets : List Net). length nets) extends.nets in let f = length-append a.nets extends.added in omega (arith, e, f)
+  grown_by a b extends = let e : length b.nets ≡ length (a.nets ++ extends.added) =
+      ap (λ (nets : List Net). length nets) extends.nets in let f =
+      length-append a.nets extends.added in omega (arith, e, f)
 
   -- the counts, with no ports and names yet
   pub shared_readied : IsReadied diagram plan times shared
@@ -206,10 +219,16 @@ module _ (diagram : Diagram) (plan : Resolved) (times : Times) (place_of : ℕ �
         let one = grown_by start hubbed hubs.extends in
         let two = grown_by hubbed lined lines.extends in
         let sum : 0 + lines_count + shared_count ≡ lines_count + shared_count = omega arith in
-        subst (HasMoreRegisters diagram plan times start shared) sum (registers_then diagram plan times start lined shared (0 + lines_count) shared_count (omega (arith, one, two)) (registers_then diagram plan times start hubbed lined 0 lines_count one hubbed_more lined_more) shared_more);
+        subst (HasMoreRegisters diagram plan times start shared) sum
+        (registers_then diagram plan times start lined shared (0 + lines_count) shared_count
+        (omega (arith, one, two)) (registers_then diagram plan times start hubbed lined 0 lines_count one
+        hubbed_more lined_more) shared_more);
     own =
         let theirs = multiplied.own in
-        let bare : length (others lined) ≡ 0 = ap (λ (ms : List Factors). length ms) (same_gathered own_factors [] lined.nets (λ k x at. absurd (none-some x at)) (λ k net low at. (lined_plain k net at).0)) in
+        let bare : length (others lined) ≡ 0 =
+        ap (λ (ms : List Factors). length ms)
+        (same_gathered own_factors [] lined.nets (λ k x at. absurd (none-some x at))
+        (λ k net low at. (lined_plain k net at).0)) in
         omega (arith, theirs, bare);
     shared = multiplied.shared no_units;
   }

@@ -1,5 +1,6 @@
 -- One more element is counted, and its pipeline stands.
-use Rattle.std.proofs.Common.{◌≡◌, ℕ, zero, suc, ◌+◌, ◌<◌, ◌≤◌, ◌⊎◌, ◌++◌, inl, inr, List, [], ◌∷◌, length, Contains, Option, slice_index_or, Some, None, ap, sym, ◌∙◌, subst, refl, append_assoc, append-nil, length-append, arith}
+use Rattle.std.proofs.Common.{◌≡◌, ℕ, zero, suc, ◌+◌, ◌<◌, ◌≤◌, ◌⊎◌, ◌++◌, inl, inr, List, [], ◌∷◌, length, Contains, Option, slice_index_or, Some, None, ap, sym, ◌∙◌, subst, refl, append_assoc}
+use Rattle.std.proofs.Common.{append-nil, length-append, arith}
 use Rattle.std.specs.Prelude.{slice_get, slice_set, Bool, if◌then◌else◌}
 use Rattle.std.specs.List.{flat_map}
 use Rattle.std.proofs.lemmas.Bool.{cases_lt}
@@ -38,7 +39,9 @@ pub at_last : (xs : List ℕ) (x k : ℕ) → k ≡ length xs → slice_index_or
 at_last xs x k same = get_or_from_slice_get (xs ++ x ∷ []) k x 0 (ap (slice_get (xs ++ x ∷ [])) same ∙ last_at xs x)
 
 -- the names of registers are among those that were put in
-stage_named : (labels : List NetLabel) (begin block element count k : ℕ) → k < count → Contains (labels ++ stage_labels begin block element count) (record { net = begin + suc k; name = stage_name block element (suc k) })
+stage_named : (labels : List NetLabel) (begin block element count k : ℕ) → k < count
+    → Contains (labels ++ stage_labels begin block element count)
+    (record { net = begin + suc k; name = stage_name block element (suc k) })
 stage_named labels begin block element zero k below = absurd (omega (arith, below))
 stage_named labels begin block element (suc count) k below =
     let own : List NetLabel = stage_labels begin block element count in
@@ -50,12 +53,19 @@ stage_named labels begin block element (suc count) k below =
       | inr past ↦
           let e : k ≡ count = omega (arith, past, below) in
           subst (λ (n : ℕ). Contains ((labels ++ own) ++ one ∷ []) (record { net = begin + suc n; name = stage_name block element (suc n) })) (sym e)
-          (let sum = length-append (labels ++ own) (one ∷ []) in (length (labels ++ own), omega (arith, sum), get_or_from_slice_get ((labels ++ own) ++ one ∷ []) (length (labels ++ own)) one one (last_at (labels ++ own) one)))
+          (let sum = length-append (labels ++ own) (one ∷ []) in (
+            length (labels ++ own),
+            omega (arith, sum),
+            get_or_from_slice_get ((labels ++ own) ++ one ∷ []) (length (labels ++ own)) one one
+                (last_at (labels ++ own) one),
+          ))
     ])
 
 -- ---- a net in place of another
 
-set_same : {B : Type 0} (f : NetKind → List B) (xs : List Net) (k : ℕ) (x y : Net) → slice_get xs k ≡ Some x → f y.kind ≡ f x.kind → flat_map (λ (n : Net). f n.kind) (slice_set xs k y) ≡ flat_map (λ (n : Net). f n.kind) xs
+set_same : {B : Type 0} (f : NetKind → List B) (xs : List Net) (k : ℕ) (x y : Net) → slice_get xs k ≡ Some x
+    → f y.kind ≡ f x.kind → flat_map (λ (n : Net). f n.kind) (slice_set xs k y)
+    ≡ flat_map (λ (n : Net). f n.kind) xs
 set_same f [] k x y at same = absurd (none-some x at)
 set_same {B} f (z ∷ xs) zero x y at same = ap (λ (bs : List B). bs ++ flat_map (λ (n : Net). f n.kind) xs) (same ∙ ap (λ (n : Net). f n.kind) (sym (same_Some z x at)))
 set_same {B} f (z ∷ xs) (suc k) x y at same = ap (λ (bs : List B). f z.kind ++ bs) (set_same f xs k x y at same)
@@ -70,7 +80,10 @@ pub record IsPipedOver (diagram : Diagram) (timing : Timing) (fence : ℕ) (befo
   pub more : length before.nets ≤ length after.nets
   pub there : ReadThere after.nets
   -- pipelines that stood go on
-  pub kept : (other member period begin : ℕ) → begin + timing.stages other < length before.nets → (entry < begin) ⊎ (begin + timing.stages other ≤ entry) → IsPipelineAt diagram timing fence before other member period begin → IsPipelineAt diagram timing fence after other member period begin
+  pub kept : (other member period begin : ℕ) → begin + timing.stages other < length before.nets
+      → (entry < begin) ⊎ (begin + timing.stages other ≤ entry)
+      → IsPipelineAt diagram timing fence before other member period begin
+      → IsPipelineAt diagram timing fence after other member period begin
   pub own : (period : ℕ) → (attributes_of diagram).period_at block ≡ Some period → 0 < timing.stages block → IsPipelineAt diagram timing fence after block element period piped.begin
   pub registers : register_count after.nets ≤ register_count before.nets + timing.stages block
   pub others_are : length (others after) ≡ length (others before)
@@ -82,7 +95,10 @@ pub record IsPipedOver (diagram : Diagram) (timing : Timing) (fence : ℕ) (befo
   pub labels_are : after.labels ≡ before.labels ++ stage_labels piped.begin block element stage_count
   pub labels_kept : (label : NetLabel) → Contains before.labels label → Contains after.labels label
 
-module _ (diagram : Diagram) (timing : Timing) (fence : ℕ) (before middle after : Circuit) (closed block element entry : ℕ) (piped : Piped) (typed : IsWord (width_of ((attributes_of diagram).type_at block 1)) (is_signed ((attributes_of diagram).type_at block 1))) (there : entry < length before.nets)
+module _ (diagram : Diagram) (timing : Timing) (fence : ℕ) (before middle after : Circuit)
+    (closed block element entry : ℕ) (piped : Piped)
+    (typed : IsWord (width_of ((attributes_of diagram).type_at block 1))
+    (is_signed ((attributes_of diagram).type_at block 1))) (there : entry < length before.nets)
     (read : ReadThere before.nets) (low : closed < fence) (small : fence ≤ length before.nets) (waits : IsResize middle.nets closed) (is : IsConnected middle after closed piped.end) where
   abbrev type : FxType
   type = (attributes_of diagram).type_at block 1
@@ -115,7 +131,9 @@ module _ (diagram : Diagram) (timing : Timing) (fence : ℕ) (before middle afte
   size_after : length after.nets ≡ length middle.nets
   size_after = connected_length middle after closed piped.end is
 
-  over_plain : middle ≡ before → piped.end ≡ entry → (timing.stages block ≡ 0) ⊎ ((attributes_of diagram).period_at block ≡ None) → IsPipedOver diagram timing fence before after block element entry piped
+  over_plain : middle ≡ before → piped.end ≡ entry
+      → (timing.stages block ≡ 0) ⊎ ((attributes_of diagram).period_at block ≡ None)
+      → IsPipedOver diagram timing fence before after block element entry piped
   over_plain same ends reason =
       let count : length middle.nets ≡ length before.nets = ap (λ (c : Circuit). length c.nets) same in
       let size = size_after in
@@ -143,7 +161,9 @@ module _ (diagram : Diagram) (timing : Timing) (fence : ℕ) (before middle afte
         labels_kept = λ label contained. subst (λ (all : List NetLabel). Contains all label) (sym (connected_labels ∙ ap (λ (c : Circuit). c.labels) same)) contained;
       }
 
-  module _ (period : ℕ) (some : 0 < period) (is_period : (attributes_of diagram).period_at block ≡ Some period) (adds : AddsPipeline timing before middle type block element period entry piped.begin) (ends : piped.end ≡ piped.begin + timing.stages block) where
+  module _ (period : ℕ) (some : 0 < period) (is_period : (attributes_of diagram).period_at block ≡ Some period)
+      (adds : AddsPipeline timing before middle type block element period entry piped.begin)
+      (ends : piped.end ≡ piped.begin + timing.stages block) where
     abbrev bare_now : Circuit
     bare_now = bare timing before middle type block element period entry piped.begin adds typed some there
 
@@ -171,9 +191,15 @@ module _ (diagram : Diagram) (timing : Timing) (fence : ℕ) (before middle afte
           size = omega (arith, size);
           entry = entry;
           wire = ap (λ (all : List Net). slice_get all piped.begin) nets ∙ wire_at timing before middle type block element period entry piped.begin adds typed some there;
-          stage = λ k below. ap (λ (all : List Net). slice_get all (piped.begin + suc k)) nets ∙ stage_at timing before middle type block element period entry piped.begin adds typed some there k below;
-          turn = subst (λ (all : List Net). AreReadInTurn all piped.begin (piped.begin + timing.stages block)) (sym nets) (bare_turn timing before middle type block element period entry piped.begin adds typed some there read);
-          named = λ k below. subst (λ (all : List NetLabel). Contains all (record { net = piped.begin + suc k; name = stage_name block element (suc k) })) (sym labels) (stage_named bare_now.labels piped.begin block element (timing.stages block) k below);
+          stage = λ k below. ap (λ (all : List Net). slice_get all (piped.begin + suc k)) nets
+              ∙ stage_at timing before middle type block element period entry piped.begin adds typed some there k
+              below;
+          turn = subst (λ (all : List Net). AreReadInTurn all piped.begin (piped.begin + timing.stages block))
+              (sym nets) (bare_turn timing before middle type block element period entry piped.begin adds typed some
+              there read);
+          named = λ k below. subst (λ (all : List NetLabel). Contains all
+              (record { net = piped.begin + suc k; name = stage_name block element (suc k) })) (sym labels)
+              (stage_named bare_now.labels piped.begin block element (timing.stages block) k below);
         }
 
     over_staged : IsPipedOver diagram timing fence before after block element entry piped
@@ -197,8 +223,14 @@ module _ (diagram : Diagram) (timing : Timing) (fence : ℕ) (before middle afte
               pipeline_by_connect diagram timing fence block element wide piped.begin middle after closed piped.end is low (inr (omega (arith, ends)))
               (subst (λ (p : ℕ). IsPipelineAt diagram timing fence middle block element p piped.begin) (same_Some period wide (sym is_period ∙ is_wide)) own_middle);
           registers = omega (arith, registers, counted, bare_count);
-          others_are = ap length (connected_others ∙ ap (flat_map (λ (n : Net). own_factors n.kind)) nets ∙ same_listed own_factors before bare_now appends.extends (λ k net later at. (bare_none timing before middle type block element period entry piped.begin adds typed some there k net later at).0));
-          units_are = connected_units ∙ ap (flat_map (λ (n : Net). unit_factors n.kind)) nets ∙ same_listed unit_factors before bare_now appends.extends (λ k net later at. (bare_none timing before middle type block element period entry piped.begin adds typed some there k net later at).1);
+          others_are = ap length (connected_others ∙ ap (flat_map (λ (n : Net). own_factors n.kind)) nets
+              ∙ same_listed own_factors before bare_now appends.extends
+              (λ k net later at. (bare_none timing before middle type block element period entry piped.begin
+              adds typed some there k net later at).0));
+          units_are = connected_units ∙ ap (flat_map (λ (n : Net). unit_factors n.kind)) nets
+              ∙ same_listed unit_factors before bare_now appends.extends
+              (λ k net later at. (bare_none timing before middle type block element period entry piped.begin
+              adds typed some there k net later at).1);
           products_kept = λ k net at one. connected_products k net (ap (λ (all : List Net). slice_get all k) nets ∙ still-there before bare_now k net appends.extends at) one;
           stage_count = timing.stages block;
           stage_few = omega arith;
@@ -206,15 +238,21 @@ module _ (diagram : Diagram) (timing : Timing) (fence : ℕ) (before middle afte
           labels_are = connected_labels ∙ labels ∙ ap (λ (all : List NetLabel). all ++ stage_labels piped.begin block element (timing.stages block)) appends.extends.labels;
           labels_kept = λ label contained.
               subst (λ (all : List NetLabel). Contains all label) (sym (connected_labels ∙ labels))
-              (contains_front bare_now.labels (stage_labels piped.begin block element (timing.stages block)) label (subst (λ (all : List NetLabel). Contains all label) (sym appends.extends.labels) contained));
+              (contains_front bare_now.labels (stage_labels piped.begin block element (timing.stages block)) label
+              (subst (λ (all : List NetLabel). Contains all label) (sym appends.extends.labels) contained));
         }
 
-  over_by : (period : Option ℕ) → (attributes_of diagram).period_at block ≡ period → ((p : ℕ) → period ≡ Some p → 0 < p) → (stages : ℕ) → timing.stages block ≡ stages → IsPipedBy diagram timing before middle block element entry piped → IsPipedOver diagram timing fence before after block element entry piped
+  over_by : (period : Option ℕ) → (attributes_of diagram).period_at block ≡ period
+      → ((p : ℕ) → period ≡ Some p → 0 < p) → (stages : ℕ) → timing.stages block ≡ stages
+      → IsPipedBy diagram timing before middle block element entry piped
+      → IsPipedOver diagram timing fence before after block element entry piped
   over_by None is_period some stages are put = let plain = put.none (inr is_period) in over_plain plain.0 plain.2 (inr is_period)
   over_by (Some p) is_period some zero are put = let plain = put.none (inl are) in over_plain plain.0 plain.2 (inl are)
   over_by (Some p) is_period some (suc stages) are put =
       let staged = put.some p is_period (omega (arith, are)) in
       over_staged p (some p refl) is_period staged.0 staged.1
 
-  pub piped_over : ((p : ℕ) → (attributes_of diagram).period_at block ≡ Some p → 0 < p) → IsPipedBy diagram timing before middle block element entry piped → IsPipedOver diagram timing fence before after block element entry piped
+  pub piped_over : ((p : ℕ) → (attributes_of diagram).period_at block ≡ Some p → 0 < p)
+      → IsPipedBy diagram timing before middle block element entry piped
+      → IsPipedOver diagram timing fence before after block element entry piped
   piped_over some put = over_by ((attributes_of diagram).period_at block) refl some (timing.stages block) refl put

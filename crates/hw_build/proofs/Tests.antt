@@ -32,21 +32,27 @@ or_is false false = refl
 
 module _ (closed hubs : ℕ) (now : Circuit) where
   -- whether a net is above a constant 0
-  pub above_shows : (number zero_at operand : ℕ) (net : Net) → IsSettled closed hubs now number net → net.width ≡ 1 → net.signed ≡ false → net.kind ≡ Comb Less (zero_at ∷ operand ∷ []) → InLater closed hubs now (λ n rows. AreSame n (rows zero_at) (steady (pos 0)))
+  pub above_shows : (number zero_at operand : ℕ) (net : Net) → IsSettled closed hubs now number net → net.width ≡ 1
+      → net.signed ≡ false → net.kind ≡ Comb Less (zero_at ∷ operand ∷ [])
+      → InLater closed hubs now (λ n rows. AreSame n (rows zero_at) (steady (pos 0)))
       → InLater closed hubs now (λ n rows. Tells n (λ c. int_lt (pos 0) (rows operand c)) (rows number))
   above_shows number zero_at operand net is wide sign kind zeros = record {
     holds = λ later goes n inputs rows are. record {
       at = λ c below.
           let wrapped = combined closed hubs now number net Less (zero_at ∷ operand ∷ []) is kind later goes n inputs rows are c below in
           let none : rows zero_at c ≡ pos 0 = (zeros.holds later goes n inputs rows are).at c below in
-          bit_is (int_lt (pos 0) (rows operand c)) (cond (int_lt (rows zero_at c) (rows operand c)) (pos 1) (pos 0)) (rows number c) (ap (λ (z : ℤ). cond (int_lt z (rows operand c)) (pos 1) (pos 0)) none)
+          bit_is (int_lt (pos 0) (rows operand c)) (cond (int_lt (rows zero_at c) (rows operand c)) (pos 1) (pos 0))
+          (rows number c) (ap (λ (z : ℤ). cond (int_lt z (rows operand c)) (pos 1) (pos 0)) none)
           (subst (λ (w : ℕ). IsWrapped (cond (int_lt (rows zero_at c) (rows operand c)) (pos 1) (pos 0)) w false (rows number c)) wide
           (subst (λ (s : Bool). IsWrapped (cond (int_lt (rows zero_at c) (rows operand c)) (pos 1) (pos 0)) net.width s (rows number c)) sign wrapped));
     };
   }
 
   -- whether one of two truths holds
-  pub either_shows : (number one other : ℕ) (net : Net) (first second : (ℕ → Wave) → ℕ → Bool) → IsSettled closed hubs now number net → net.width ≡ 1 → net.signed ≡ false → net.kind ≡ Comb Or (one ∷ other ∷ []) → InLater closed hubs now (λ n rows. Tells n (first rows) (rows one))
+  pub either_shows : (number one other : ℕ) (net : Net) (first second : (ℕ → Wave) → ℕ → Bool)
+      → IsSettled closed hubs now number net → net.width ≡ 1 → net.signed ≡ false
+      → net.kind ≡ Comb Or (one ∷ other ∷ [])
+      → InLater closed hubs now (λ n rows. Tells n (first rows) (rows one))
       → InLater closed hubs now (λ n rows. Tells n (second rows) (rows other)) → InLater closed hubs now (λ n rows. Tells n (λ c. first rows c || second rows c) (rows number))
   either_shows number one other net first second is wide sign kind tells tells_too = record {
     holds = λ later goes n inputs rows are. record {
@@ -55,7 +61,9 @@ module _ (closed hubs : ℕ) (now : Circuit) where
           let a : rows one c ≡ stored_truth (first rows c) = (tells.holds later goes n inputs rows are).at c below in
           let b : rows other c ≡ stored_truth (second rows c) = (tells_too.holds later goes n inputs rows are).at c below in
           bit_is (first rows c || second rows c) (pos (bit_or (low_bits 128 (rows one c)) (low_bits 128 (rows other c)))) (rows number c)
-          (ap (λ (z : ℤ). pos (bit_or (low_bits 128 z) (low_bits 128 (rows other c)))) a ∙ ap (λ (z : ℤ). pos (bit_or (low_bits 128 (stored_truth (first rows c))) (low_bits 128 z))) b ∙ or_is (first rows c) (second rows c))
+          (ap (λ (z : ℤ). pos (bit_or (low_bits 128 z) (low_bits 128 (rows other c)))) a
+          ∙ ap (λ (z : ℤ). pos (bit_or (low_bits 128 (stored_truth (first rows c))) (low_bits 128 z))) b
+          ∙ or_is (first rows c) (second rows c))
           (subst (λ (w : ℕ). IsWrapped (pos (bit_or (low_bits 128 (rows one c)) (low_bits 128 (rows other c)))) w false (rows number c)) wide
           (subst (λ (s : Bool). IsWrapped (pos (bit_or (low_bits 128 (rows one c)) (low_bits 128 (rows other c)))) net.width s (rows number c)) sign wrapped));
     };

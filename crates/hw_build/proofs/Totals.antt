@@ -8,7 +8,8 @@ use Rattle.math_list.specs.Numbers.{numbers_from}
 use Rattle.dg_model.specs.declared.diagram.Diagram.{Diagram}
 use Rattle.dg_model.specs.declared.diagram.Block.{Block}
 use Rattle.dg_model.specs.declared.kind.Kind.{Kind}
-use Rattle.dg_model.specs.declared.kind.Kind.TheVariants.{Inport, Outport, Constant, Ground, Sum, Gain, Product, Switch, Relational, Logic, Convert, Delay, Mux, Demux, RateTransition, Pass, EnableTest, EnOut, Terminator}
+use Rattle.dg_model.specs.declared.kind.Kind.TheVariants.{Inport, Outport, Constant, Ground, Sum, Gain, Product, Switch, Relational, Logic, Convert, Delay, Mux, Demux, RateTransition, Pass}
+use Rattle.dg_model.specs.declared.kind.Kind.TheVariants.{EnableTest, EnOut, Terminator}
 use Rattle.dg_model.specs.declared.resolved.Resolved.{Resolved}
 use Rattle.dg_model.specs.Attributes.{attributes_of}
 use Rattle.dg_model.specs.Library.{row_of}
@@ -48,7 +49,9 @@ before_add f a (suc c) v each =
     omega (arith, next, rest, last, product)
 
 -- of groups that follow one another, in each of which all count for the same
-pub grouped : (f own each : ℕ → ℕ) (roots n : ℕ) → ((k : ℕ) → k < roots → f k ≡ 0) → ((m i : ℕ) → m < n → i < own m → f (roots + before own m + i) ≡ each m) → before f (roots + before own n) ≡ before (λ m. each m * own m) n
+pub grouped : (f own each : ℕ → ℕ) (roots n : ℕ) → ((k : ℕ) → k < roots → f k ≡ 0)
+    → ((m i : ℕ) → m < n → i < own m → f (roots + before own m + i) ≡ each m)
+    → before f (roots + before own n) ≡ before (λ m. each m * own m) n
 grouped f own each roots zero first rest = let flat : roots + before own 0 ≡ roots = omega arith in ap (before f) flat ∙ none_before f roots first
 grouped f own each roots (suc n) first rest =
     let place : roots + before own (suc n) ≡ roots + before own n + own n = omega arith in
@@ -78,7 +81,9 @@ filtered : (p : ℕ → Bool) (w : ℕ → ℕ) (xs : List ℕ) → sum (map w (
 filtered p w [] = refl
 filtered p w (x ∷ xs) = go (p x) refl (filtered p w xs)
   where
-    go : (t : Bool) → p x ≡ t → sum (map w (filter p xs)) ≡ sum (map (λ m. if p m then w m else 0) xs) → sum (map w (if t then x ∷ filter p xs else filter p xs)) ≡ sum (map (λ m. if p m then w m else 0) (x ∷ xs))
+    go : (t : Bool) → p x ≡ t → sum (map w (filter p xs)) ≡ sum (map (λ m. if p m then w m else 0) xs)
+        → sum (map w (if t then x ∷ filter p xs else filter p xs))
+        ≡ sum (map (λ m. if p m then w m else 0) (x ∷ xs))
     go true e rest =
         let one = sum-cons (w x) (map w (filter p xs)) in
         let two = sum-cons (if p x then w x else 0) (map (λ (m : ℕ). if p m then w m else 0) xs) in
@@ -98,7 +103,9 @@ record HasNone (kind : Kind) : Type 0 where
   pub kept : kept_by_role (row_of kind).place.role ≡ 0
 
 -- a block shows one port, as wide as it is, or has no registers
-shows_one : (diagram : Diagram) (a : Attributes) (block : ℕ) (kind : Kind) (inputs outputs : ℕ) → HasPorts kind inputs outputs → ((shown_ports kind outputs ≡ 1) × (shown_width diagram a kind block 1 ≡ a.width_at block 1)) ⊎ HasNone kind
+shows_one : (diagram : Diagram) (a : Attributes) (block : ℕ) (kind : Kind) (inputs outputs : ℕ)
+    → HasPorts kind inputs outputs → ((shown_ports kind outputs ≡ 1)
+    × (shown_width diagram a kind block 1 ≡ a.width_at block 1)) ⊎ HasNone kind
 shows_one diagram a block (Inport number width) inputs outputs ports = inl (ports.1, refl)
 shows_one diagram a block (Outport number) inputs outputs ports = inr (record { pipelines = refl; delay = refl; kept = refl })
 shows_one diagram a block (Constant value) inputs outputs ports = inl (ports.1, refl)
@@ -165,7 +172,9 @@ module _ (diagram : Diagram) (plan : Resolved) (allowed : StagesAreAllowed diagr
       let some = get_some diagram.blocks m below in
       let b : Block = some.0 in
       let at = some.1 in
-      let here : registers_each diagram a plan m b * own_hubs diagram m ≤ registers_at diagram a plan m (Some b) = elim (shows_one diagram a m b.kind b.inputs b.outputs (readable_at diagram ordered.checked.wired m b at).ports) [
+      let here : registers_each diagram a plan m b * own_hubs diagram m ≤ registers_at diagram a plan m (Some b) =
+      elim (shows_one diagram a m b.kind b.inputs b.outputs
+      (readable_at diagram ordered.checked.wired m b at).ports) [
         | inl one ↦
             (let less = mul-le-mul_left (registers_each diagram a plan m b) (own_one m b at one.0 one.1) in
             let swapped = mul_comm (registers_each diagram a plan m b) (a.width_at m 1) in
@@ -183,10 +192,15 @@ module _ (diagram : Diagram) (plan : Resolved) (allowed : StagesAreAllowed diagr
       grouped (hub_registers diagram plan) (own_hubs diagram) (λ m. registers_by diagram plan m (slice_get diagram.blocks m)) roots (length diagram.blocks)
       (λ k below. cond-true {A = ℕ} (nat_lt k roots) 0 (registers_by diagram plan (owner_of diagram k) (slice_get diagram.blocks (owner_of diagram k))) (lt-ltb k roots below))
       (λ m i below inside.
-      cond-false {A = ℕ} (nat_lt (roots + before (own_hubs diagram) m + i) roots) 0 (registers_by diagram plan (owner_of diagram (roots + before (own_hubs diagram) m + i)) (slice_get diagram.blocks (owner_of diagram (roots + before (own_hubs diagram) m + i)))) (le-ltb (roots + before (own_hubs diagram) m + i) roots (omega arith))
+      cond-false {A = ℕ} (nat_lt (roots + before (own_hubs diagram) m + i) roots) 0
+      (registers_by diagram plan (owner_of diagram (roots + before (own_hubs diagram) m + i))
+      (slice_get diagram.blocks (owner_of diagram (roots + before (own_hubs diagram) m + i))))
+      (le-ltb (roots + before (own_hubs diagram) m + i) roots (omega arith))
       ∙ ap (λ (x : ℕ). registers_by diagram plan x (slice_get diagram.blocks x)) (owner_here m i below inside))
       in
-      let less = before_le (λ m. registers_by diagram plan m (slice_get diagram.blocks m) * own_hubs diagram m) (λ place. registers_at diagram a plan place (slice_get diagram.blocks place)) (length diagram.blocks) registers_one in
+      let less = before_le (λ m. registers_by diagram plan m (slice_get diagram.blocks m) * own_hubs diagram m)
+      (λ place. registers_at diagram a plan place (slice_get diagram.blocks place))
+      (length diagram.blocks) registers_one in
       omega (arith, all, less)
 
   -- ---- multiplications
@@ -232,7 +246,9 @@ module _ (diagram : Diagram) (plan : Resolved) (allowed : StagesAreAllowed diagr
       grouped (hub_products diagram plan) (own_hubs diagram) (products_by diagram plan) roots (length diagram.blocks)
       (λ k below. cond-true {A = ℕ} (nat_lt k roots) 0 (products_by diagram plan (owner_of diagram k)) (lt-ltb k roots below))
       (λ m i below inside.
-      cond-false {A = ℕ} (nat_lt (roots + before (own_hubs diagram) m + i) roots) 0 (products_by diagram plan (owner_of diagram (roots + before (own_hubs diagram) m + i))) (le-ltb (roots + before (own_hubs diagram) m + i) roots (omega arith))
+      cond-false {A = ℕ} (nat_lt (roots + before (own_hubs diagram) m + i) roots) 0
+      (products_by diagram plan (owner_of diagram (roots + before (own_hubs diagram) m + i)))
+      (le-ltb (roots + before (own_hubs diagram) m + i) roots (omega arith))
       ∙ ap (products_by diagram plan) (owner_here m i below inside))
       in
       let same = before_same (λ m. products_by diagram plan m * own_hubs diagram m) (λ m. if owns m then a.width_at m 1 else 0) (length diagram.blocks) products_one in

@@ -34,7 +34,9 @@ one_frame p l cycles s r t u hit other low less same =
     ]
 
 module _ (served : OperationsAreServed) (fits : ReadyFits) where
-  pub slot_fits : (diagram : Diagram) (plan : Resolved) (times : Times) (number : ℕ) (o : Operation) (period : ℕ) → IsScheduled diagram plan times → IsOperation diagram (attributes_of diagram) plan number o → (attributes_of diagram).period_at o.block ≡ Some period
+  pub slot_fits : (diagram : Diagram) (plan : Resolved) (times : Times) (number : ℕ) (o : Operation) (period : ℕ)
+      → IsScheduled diagram plan times → IsOperation diagram (attributes_of diagram) plan number o
+      → (attributes_of diagram).period_at o.block ≡ Some period
       → slot_of diagram (attributes_of diagram) plan times number o < period * plan.cycles
   slot_fits diagram plan times number o period s at is =
       let o_served = served diagram (attributes_of diagram) plan times number o period s.timed.fed s.timed.depths at is in
@@ -56,14 +58,23 @@ module _ (served : OperationsAreServed) (differ : SlotsDiffer) (fits : ReadyFits
         | inr more ↦ elim (cases_lt b a) [ inl greater ↦ inr (λ e. absurd (omega (arith, greater, e))) | inr same ↦ inl (omega (arith, more, same)) ]
       ]
 
-      by : wide ≡ period → latency_at times.lat q.block ≡ latency_at times.lat o.block → (t ≡ u) × (slot_of diagram (attributes_of diagram) plan times number o ≡ slot_of diagram (attributes_of diagram) plan times other q)
+      by : wide ≡ period → latency_at times.lat q.block ≡ latency_at times.lat o.block
+          → (t ≡ u) × (slot_of diagram (attributes_of diagram) plan times number o
+          ≡ slot_of diagram (attributes_of diagram) plan times other q)
       by same late =
-          one_frame period (latency_at times.lat o.block) plan.cycles (slot_of diagram (attributes_of diagram) plan times number o) (slot_of diagram (attributes_of diagram) plan times other q) t u hit (subst (λ (p : ℕ). u % p ≡ 0) same hit_too)
-          (slot_fits served fits diagram plan times number o period s at is) (subst (λ (p : ℕ). slot_of diagram (attributes_of diagram) plan times other q < p * plan.cycles) same (slot_fits served fits diagram plan times other q wide s there wide_is))
+          one_frame period (latency_at times.lat o.block) plan.cycles
+          (slot_of diagram (attributes_of diagram) plan times number o)
+          (slot_of diagram (attributes_of diagram) plan times other q) t u hit
+          (subst (λ (p : ℕ). u % p ≡ 0) same hit_too)
+          (slot_fits served fits diagram plan times number o period s at is)
+          (subst (λ (p : ℕ). slot_of diagram (attributes_of diagram) plan times other q < p * plan.cycles) same
+          (slot_fits served fits diagram plan times other q wide s there wide_is))
           (clock ∙ ap (λ (l : ℕ). (u + l) * plan.cycles + slot_of diagram (attributes_of diagram) plan times other q) late)
 
       turn : number ≡ other → ◌≡◌ {A = Operation} o q → (t ≡ u) × (slot_of diagram (attributes_of diagram) plan times number o ≡ slot_of diagram (attributes_of diagram) plan times other q)
-      turn same one = by (same_Some wide period (sym wide_is ∙ ap (λ (x : Operation). (attributes_of diagram).period_at x.block) (sym one) ∙ is)) (ap (λ (x : Operation). latency_at times.lat x.block) (sym one))
+      turn same one = by (same_Some wide period
+          (sym wide_is ∙ ap (λ (x : Operation). (attributes_of diagram).period_at x.block) (sym one) ∙ is))
+          (ap (λ (x : Operation). latency_at times.lat x.block) (sym one))
 
       never : number ≢ other → ⊥
       never apart =

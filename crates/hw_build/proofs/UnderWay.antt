@@ -27,7 +27,9 @@ use Rattle.hw_build.proofs.Steps.{facts_later}
 
 module _ (diagram : Diagram) (timing : Timing) (places : Places) (place_of : ℕ → ℕ) (hubs : ℕ) where
   -- hubs and operands of a netlist that goes on, where their levels stay
-  pub hubs_later : (closed : ℕ) (now later : Circuit) (level next : ℕ → ℕ) → GoesOn closed hubs now later → length now.nets ≤ length later.nets → ((k : ℕ) → k < length now.nets → next k ≡ level k) → HaveHubs diagram places place_of hubs now level
+  pub hubs_later : (closed : ℕ) (now later : Circuit) (level next : ℕ → ℕ) → GoesOn closed hubs now later
+      → length now.nets ≤ length later.nets → ((k : ℕ) → k < length now.nets → next k ≡ level k)
+      → HaveHubs diagram places place_of hubs now level
       → HaveHubs diagram places place_of hubs later next
   hubs_later closed now later level next goes more same have =
       let there = have.there in
@@ -42,9 +44,13 @@ module _ (diagram : Diagram) (timing : Timing) (places : Places) (place_of : ℕ
             omega (arith, low, e);
       }
 
-  pub operands_later : (closed : ℕ) (now later : Circuit) (level next : ℕ → ℕ) → GoesOn closed hubs now later → ((k : ℕ) → k < length now.nets → next k ≡ level k) → HaveOperands diagram places place_of hubs now level → HaveOperands diagram places place_of hubs later next
+  pub operands_later : (closed : ℕ) (now later : Circuit) (level next : ℕ → ℕ) → GoesOn closed hubs now later
+      → ((k : ℕ) → k < length now.nets → next k ≡ level k) → HaveOperands diagram places place_of hubs now level
+      → HaveOperands diagram places place_of hubs later next
   operands_later closed now later level next goes same have = record {
-    there = λ block b port element edge at showing from to drives below. word_later closed hubs now later (places.offered block port element) _ _ goes (have.there block b port element edge at showing from to drives below);
+    there = λ block b port element edge at showing from to drives below. word_later closed hubs now later
+        (places.offered block port element) _ _ goes
+        (have.there block b port element edge at showing from to drives below);
     levels = λ block b port element edge at showing from to drives below.
         let word = have.there block b port element edge at showing from to drives below in
         let low = have.levels block b port element edge at showing from to drives below in
@@ -59,7 +65,9 @@ module _ (diagram : Diagram) (timing : Timing) (places : Places) (place_of : ℕ
   }
 
   -- a call that names nets of no higher level than its own
-  pub by_call : (closed count own : ℕ) (before after : Circuit) (level : ℕ → ℕ) (named : List ℕ) → IsUnderWay diagram timing places place_of closed hubs before level count → Appends before after named → length after.inputs ≤ length (root_inputs diagram (attributes_of diagram)) → 1 ≤ own
+  pub by_call : (closed count own : ℕ) (before after : Circuit) (level : ℕ → ℕ) (named : List ℕ)
+      → IsUnderWay diagram timing places place_of closed hubs before level count → Appends before after named
+      → length after.inputs ≤ length (root_inputs diagram (attributes_of diagram)) → 1 ≤ own
       → ((read : ℕ) → Contains named read → (read < length before.nets) × (level read ≤ own)) → IsUnderWay diagram timing places place_of closed hubs after (level_behind before after level own) count
   by_call closed count own before after level named way appends few some low =
       let goes = goes_appended closed hubs before after appends.extends in
@@ -74,7 +82,10 @@ module _ (diagram : Diagram) (timing : Timing) (places : Places) (place_of : ℕ
       }
 
   -- the next hub gets an argument of a lower level
-  pub by_connect : (closed count argument : ℕ) (before after : Circuit) (level : ℕ → ℕ) (old : List ℕ) (is : IsConnected before after closed argument) → is.net.kind ≡ Comb Resize old → IsWord is.net.width is.net.signed → closed < hubs → argument < length before.nets → level argument < level closed
+  pub by_connect : (closed count argument : ℕ) (before after : Circuit) (level : ℕ → ℕ) (old : List ℕ)
+      (is : IsConnected before after closed argument) → is.net.kind ≡ Comb Resize old
+      → IsWord is.net.width is.net.signed → closed < hubs → argument < length before.nets
+      → level argument < level closed
       → IsUnderWay diagram timing places place_of closed hubs before level count → IsUnderWay diagram timing places place_of (suc closed) hubs after level count
   by_connect closed count argument before after level old is kind word high there lower way =
       let goes = goes_connected closed hubs before after closed argument old is kind (omega arith) high in
@@ -95,7 +106,10 @@ module _ (diagram : Diagram) (timing : Timing) (places : Places) (place_of : ℕ
           | inl past ↦ record { net = at.net; is = sym (connected_elsewhere before after closed argument k is (λ e. absurd (omega (arith, past, e)))) ∙ at.is; counts = at.counts }
           | inr equal ↦
               let e : k ≡ closed = omega (arith, more, equal) in
-              let own : ◌≡◌ {A = Net} (given is.net argument) at.net = same_Some (given is.net argument) at.net (sym (connected_here before after closed argument is) ∙ ap (slice_get after.nets) (sym e) ∙ at.is) in
+              let own : ◌≡◌ {A = Net} (given is.net argument) at.net =
+              same_Some (given is.net argument) at.net
+              (sym (connected_here before after closed argument is) ∙ ap (slice_get after.nets) (sym e)
+              ∙ at.is) in
               absurd (none-some frame (ap (λ (n : Net). counted_frame n.kind) own ∙ at.counts))
         ]
       ]

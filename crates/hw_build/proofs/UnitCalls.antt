@@ -53,7 +53,9 @@ some_factors (Unit left right) e = (record { left = left; right = right }, refl)
 some_factors (Counter frame) e = absurd (false≢true e)
 
 -- where there were none before
-pub units_from : (before after : Circuit) (named : List ℕ) (first count : ℕ) → Appends before after named → ((k : ℕ) (net : Net) → slice_get before.nets k ≡ Some net → is_unit net.kind ≡ false) → AreUnits before after first count → AreUnitsFrom after.nets first count
+pub units_from : (before after : Circuit) (named : List ℕ) (first count : ℕ) → Appends before after named
+    → ((k : ℕ) (net : Net) → slice_get before.nets k ≡ Some net → is_unit net.kind ≡ false)
+    → AreUnits before after first count → AreUnitsFrom after.nets first count
 units_from before after named first count appends none are = record {
   room = are.room;
   before = λ k net early at. elim (cases_lt k (length before.nets)) [
@@ -74,7 +76,9 @@ pub record IsAskedFor (diagram : Diagram) (plan : Resolved) (times : Times) (pla
   pub unit : one.unit ≡ unit_of diagram (attributes_of diagram) plan times number o
   pub left : one.left ≡ places.offered o.block 1 o.element
 
-module _ (diagram : Diagram) (plan : Resolved) (times : Times) (places : Places) (closed hubs : ℕ) (before after : Circuit) (small : hubs ≤ length before.nets) (cycles : before.cycles ≡ plan.cycles) (named : List ℕ) (appends : Appends before after named)
+module _ (diagram : Diagram) (plan : Resolved) (times : Times) (places : Places) (closed hubs : ℕ)
+    (before after : Circuit) (small : hubs ≤ length before.nets) (cycles : before.cycles ≡ plan.cycles)
+    (named : List ℕ) (appends : Appends before after named)
     (number : ℕ) (o : Operation) (b : Block) (one : Asked) (period unit result : ℕ) (asked : IsAskedFor diagram plan times places number o one period) (served : IsServed before after one unit result)
   where
     abbrev pub frames : Span
@@ -89,9 +93,13 @@ module _ (diagram : Diagram) (plan : Resolved) (times : Times) (places : Places)
     span_same : span_of before.cycles one.frame ≡ frames
     span_same = ap (λ (f : Frame). span_of before.cycles f) asked.frame ∙ ap (λ (c : ℕ). span_of c (record { period = period; latency = latency_at times.lat o.block })) cycles
 
-    serves_at : (right : ℕ) → one.right ≡ right → InLater closed hubs after (λ n rows. Serves n frames own_slot (rows (places.offered o.block 1 o.element)) (rows right) (rows served.left) (rows served.right) (rows result))
+    serves_at : (right : ℕ) → one.right ≡ right
+        → InLater closed hubs after (λ n rows. Serves n frames own_slot (rows (places.offered o.block 1 o.element))
+        (rows right) (rows served.left) (rows served.right) (rows result))
     serves_at right is =
-        in_call closed hubs before after (λ n rows. Serves n frames own_slot (rows (places.offered o.block 1 o.element)) (rows right) (rows served.left) (rows served.right) (rows result)) small appends.extends
+        in_call closed hubs before after (λ n rows. Serves n frames own_slot
+        (rows (places.offered o.block 1 o.element)) (rows right) (rows served.left) (rows served.right)
+        (rows result)) small appends.extends
         (subst (λ (r : ℕ). ServesBy (places.offered o.block 1 o.element) r frames own_slot) is
         (subst (λ (l : ℕ). ServesBy l one.right frames own_slot) asked.left
         (subst (λ (s : ℕ). ServesBy one.left one.right frames s) asked.slot
@@ -105,7 +113,14 @@ module _ (diagram : Diagram) (plan : Resolved) (times : Times) (places : Places)
 
     -- the register of the result
     pub product_kept : (right : ℕ) → one.right ≡ right → InLater closed hubs after (λ n rows. IsProductAt n frames own_slot (rows (places.offered o.block 1 o.element)) (rows right) (rows result))
-    product_kept right is = record { holds = λ later goes n inputs rows are. record { holds = λ k c early past until. ((serves_at right is).holds later goes n inputs rows are).has_product.holds k c early past until } }
+    product_kept right is = record {
+      holds =
+          λ later goes n inputs rows are. record {
+            holds =
+                λ k c early past until. ((serves_at right is).holds later goes n inputs rows are).has_product.holds k c
+                early past until;
+          };
+    }
 
 -- ---- as many multipliers as the kinds have
 
@@ -124,9 +139,14 @@ one_above (x ∷ operations) (suc k) one at = let more = one_above operations k 
 -- the operations that are asked for, by the numbers of the shared operations
 pub record AreAsked (diagram : Diagram) (plan : Resolved) (times : Times) (operations : List Asked) : Type 0 where
   pub size : length operations ≡ length (shared_operations diagram (attributes_of diagram) plan)
-  pub units : (number : ℕ) (o : Operation) (one : Asked) → IsOperation diagram (attributes_of diagram) plan number o → slice_get operations number ≡ Some one → one.unit ≡ unit_of diagram (attributes_of diagram) plan times number o
+  pub units : (number : ℕ) (o : Operation) (one : Asked) → IsOperation diagram (attributes_of diagram) plan number o
+      → slice_get operations number ≡ Some one
+      → one.unit ≡ unit_of diagram (attributes_of diagram) plan times number o
 
-pub units_are_all : UnitsAreThere → UnitsAreUsed → (diagram : Diagram) (plan : Resolved) (times : Times) (operations : List Asked) → AreAsked diagram plan times operations → unit_count operations ≡ units_in_all diagram (attributes_of diagram) plan times
+pub units_are_all : UnitsAreThere → UnitsAreUsed
+    → (diagram : Diagram) (plan : Resolved) (times : Times) (operations : List Asked)
+    → AreAsked diagram plan times operations
+    → unit_count operations ≡ units_in_all diagram (attributes_of diagram) plan times
 units_are_all there used diagram plan times operations asked =
     let all : List Operation = shared_operations diagram (attributes_of diagram) plan in
     let total : ℕ = units_in_all diagram (attributes_of diagram) plan times in
@@ -147,7 +167,10 @@ units_are_all there used diagram plan times operations asked =
         let size = asked.size in
         let inside = slice_get_within (shared_operations diagram (attributes_of diagram) plan) last.0 last.1 last.2 in
         let one : Asked = get_or operations last.0 (record { frame = record { period = 0; latency = 0 }; slot = 0; unit = 0; left = 0; right = 0 }) in
-        let at : slice_get operations last.0 ≡ Some one = slice_get-get_or operations last.0 (record { frame = record { period = 0; latency = 0 }; slot = 0; unit = 0; left = 0; right = 0 }) (omega (arith, inside, size)) in
+        let at : slice_get operations last.0 ≡ Some one =
+        slice_get-get_or operations last.0
+        (record { frame = record { period = 0; latency = 0 }; slot = 0; unit = 0; left = 0; right = 0 })
+        (omega (arith, inside, size)) in
         let is = asked.units last.0 last.1 one last.2 at in
         let unit = last.3 in
         let above = one_above operations last.0 one at in

@@ -30,22 +30,32 @@ module _ (diagram : Diagram) (places : Places) (closed hubs : ℕ) (now : Circui
     HasAll n rows = (k : ℕ) → frame_start span k + slot < n → HasFactors diagram places rows o b (frame_start span k + slot) left right
 
     -- of a Product
-    pub product_has : (row_of b.kind).types.full ≡ FullRule.FullProduct → InLater closed hubs now (λ n rows. HasInSlots n span slot (rows (places.offered o.block 2 o.element)) (rows right)) → InLater closed hubs now HasAll
+    pub product_has : (row_of b.kind).types.full ≡ FullRule.FullProduct
+        → InLater closed hubs now (λ n rows. HasInSlots n span slot (rows (places.offered o.block 2 o.element))
+        (rows right)) → InLater closed hubs now HasAll
     product_has rule has_right = record {
       holds = λ later goes n inputs rows is k early. record {
         first = (has_left.holds later goes n inputs rows is).at k early;
-        second = subst (λ (r : FullRule). IsSecondOf diagram places rows o.block o.element (frame_start span k + slot) r (rows right (frame_start span k + slot))) (sym rule) ((has_right.holds later goes n inputs rows is).at k early);
+        second = subst (λ (r : FullRule). IsSecondOf diagram places rows o.block o.element
+            (frame_start span k + slot) r (rows right (frame_start span k + slot))) (sym rule)
+            ((has_right.holds later goes n inputs rows is).at k early);
       };
     }
 
     -- of a Gain
-    pub gain_has : (value : List Decimal) (spec : TypeSpec) (coefficient : ℤ) (constant : ℕ) → (row_of b.kind).types.full ≡ FullRule.FullScaled value spec → StoresEntry value o.element ((attributes_of diagram).param_at o.block) coefficient
-        → InLater closed hubs now (λ n rows. AreSame n (rows constant) (steady coefficient)) → InLater closed hubs now (λ n rows. HasInSlots n span slot (rows constant) (rows right)) → InLater closed hubs now HasAll
+    pub gain_has : (value : List Decimal) (spec : TypeSpec) (coefficient : ℤ) (constant : ℕ)
+        → (row_of b.kind).types.full ≡ FullRule.FullScaled value spec
+        → StoresEntry value o.element ((attributes_of diagram).param_at o.block) coefficient
+        → InLater closed hubs now (λ n rows. AreSame n (rows constant) (steady coefficient))
+        → InLater closed hubs now (λ n rows. HasInSlots n span slot (rows constant) (rows right))
+        → InLater closed hubs now HasAll
     gain_has value spec coefficient constant rule stored same has_right = record {
       holds = λ later goes n inputs rows is k early. record {
         first = (has_left.holds later goes n inputs rows is).at k early;
         second =
-            let e : rows right (frame_start span k + slot) ≡ coefficient = (has_right.holds later goes n inputs rows is).at k early ∙ (same.holds later goes n inputs rows is).at (frame_start span k + slot) early in
+            let e : rows right (frame_start span k + slot) ≡ coefficient =
+            (has_right.holds later goes n inputs rows is).at k early
+            ∙ (same.holds later goes n inputs rows is).at (frame_start span k + slot) early in
             subst (λ (r : FullRule). IsSecondOf diagram places rows o.block o.element (frame_start span k + slot) r (rows right (frame_start span k + slot))) (sym rule)
             (subst (λ (v : ℤ). StoresEntry value o.element ((attributes_of diagram).param_at o.block) v) (sym e) stored);
       };

@@ -14,7 +14,9 @@ use Rattle.hw_build.specs.inner.Unread.{AreReadInTurn}
 use Rattle.hw_build.proofs.Levels.{given, connected_here, connected_elsewhere}
 
 -- by a call that names none of them
-pub in_turn_by_call : (before after : Circuit) (named : List ℕ) (first last : ℕ) → Appends before after named → last ≤ length before.nets → ((read : ℕ) → Contains named read → (read < first) ⊎ (last ≤ read)) → ((k : ℕ) → first ≤ k → k < last → ¬ IsCounter after.nets k)
+pub in_turn_by_call : (before after : Circuit) (named : List ℕ) (first last : ℕ) → Appends before after named
+    → last ≤ length before.nets → ((read : ℕ) → Contains named read → (read < first) ⊎ (last ≤ read))
+    → ((k : ℕ) → first ≤ k → k < last → ¬ IsCounter after.nets k)
     → AreReadInTurn before.nets first last → AreReadInTurn after.nets first last
 in_turn_by_call before after named first last appends there other none are = record {
   by = λ k net i read at reads_it low high. elim (cases_lt k (length before.nets)) [
@@ -29,7 +31,9 @@ in_turn_by_call before after named first last appends there other none are = rec
 }
 
 -- by a hub that gets another argument
-pub in_turn_by_connect : (before after : Circuit) (number argument first last : ℕ) → IsConnected before after number argument → (argument < first) ⊎ (last ≤ argument) → AreReadInTurn before.nets first last → AreReadInTurn after.nets first last
+pub in_turn_by_connect : (before after : Circuit) (number argument first last : ℕ)
+    → IsConnected before after number argument → (argument < first) ⊎ (last ≤ argument)
+    → AreReadInTurn before.nets first last → AreReadInTurn after.nets first last
 in_turn_by_connect before after number argument first last is other are = record {
   by = λ k net i read at given_read low high. elim (cases_lt k number) [
     | inl less ↦ are.by k net i read (sym (connected_elsewhere before after number argument k is (λ e. absurd (omega (arith, less, e)))) ∙ at) given_read low high
@@ -50,7 +54,9 @@ in_turn_by_connect before after number argument first last is other are = record
     only_one (suc i) argument read at = absurd (none-some read at)
 
 -- so a register of a pipeline alone reads the one before it
-pub alone : (nets : List Net) (first last from : ℕ) → AreReadInTurn nets first last → first ≤ from → from < last → (k read : ℕ) (other : Net) → slice_get nets k ≡ Some other → Contains (reads other.kind) read → read ≡ from → k ≡ suc from
+pub alone : (nets : List Net) (first last from : ℕ) → AreReadInTurn nets first last → first ≤ from → from < last
+    → (k read : ℕ) (other : Net) → slice_get nets k ≡ Some other → Contains (reads other.kind) read → read ≡ from
+    → k ≡ suc from
 alone nets first last from are low high k read other at contained same =
     let i : ℕ = contained.0 in
     let there : slice_get (reads other.kind) i ≡ Some read = slice_get-get_or (reads other.kind) i read contained.1 ∙ ap (λ (x : ℕ). Some x) contained.2 in

@@ -36,7 +36,9 @@ use Rattle.hw_build.proofs.Limits.{little_late, little_behind}
 use Rattle.hw_build.proofs.EndOffers.{source_is}
 
 module _ (diagram : Diagram) (timing : Timing) (places : Places) (now : Circuit) (block : ℕ) (b : Block) (target : Target) (from : ℕ) (first : ℤ) (hub : ℕ) where
-  pub want_is : (p : ℕ) (want : Want) → IsTimed diagram (attributes_of diagram) timing → slice_get diagram.blocks block ≡ Some b → 1 ≤ shown_ports b.kind b.outputs → Feeds diagram block b target from → (attributes_of diagram).period_at from ≡ Some p
+  pub want_is : (p : ℕ) (want : Want) → IsTimed diagram (attributes_of diagram) timing
+      → slice_get diagram.blocks block ≡ Some b → 1 ≤ shown_ports b.kind b.outputs
+      → Feeds diagram block b target from → (attributes_of diagram).period_at from ≡ Some p
       → (is : IsEndWant diagram timing block b target from p first hub want) → IsHubNet now hub (first_of want.feed.first) → p ≤ 4096 → is.own ≤ 4096 → latency_after timing p from < 2 ^ 62
       → timing.latency block + added (lag_into diagram (attributes_of diagram) block b target p) < 2 ^ 62 → IsWant now want
   want_is p want timed at showing feeds moves is net short own_short early late =
@@ -46,9 +48,22 @@ module _ (diagram : Diagram) (timing : Timing) (places : Places) (now : Circuit)
       let source : Source = source_of hub (frame_behind timing p from) (first_of want.feed.first) (is_some lag) in
       let same : ◌≡◌ {A = Source} (source_by want.feed) source = source_is diagram timing places 0 0 now block b target from first hub p want is in
       let to : ◌≡◌ {A = Use} want.to (use_into timing from p block in_time.own lag) = is.to_is ∙ ap (λ (o : ℕ). use_into timing from p block o lag) own in
-      let asked : IsUse source (use_into timing from p block in_time.own lag) = end_use diagram timing places timed block b target from p at showing feeds moves lag refl hub (first_of want.feed.first) (omega (arith, own_short, own)) late in
+      let asked : IsUse source (use_into timing from p block in_time.own lag) =
+      end_use diagram timing places timed block b target from p at showing feeds moves lag refl hub
+      (first_of want.feed.first) (omega (arith, own_short, own)) late in
       record {
-        source = subst (λ (s : Source). IsSource now s) (sym same) (record { net = net.net; is = net.is; word = net.word; first = net.first_in; some = source_some diagram timing places timed block b target from p at showing feeds moves; most = short; early = early });
+        source = subst (λ (s : Source). IsSource now s) (sym same)
+            (record {
+              net = net.net;
+              is = net.is;
+              word = net.word;
+              first = net.first_in;
+              some =
+                  source_some diagram timing places timed block b target from p at showing feeds moves;
+              most =
+                  short;
+              early = early;
+            });
         asked = subst (λ (s : Source). IsUse s want.to) (sym same) (subst (λ (u : Use). IsUse source u) (sym to) asked);
       }
 
@@ -67,14 +82,22 @@ lag_small Reading.Before delay (Some control) slower period few short = omega ar
 lag_small Reading.BeforeIfSlower delay enable true period few short = omega (arith, short)
 lag_small Reading.BeforeIfSlower delay enable false period few short = omega arith
 
-pub lag_into_small : (diagram : Diagram) (block : ℕ) (b : Block) (target : Target) (period : ℕ) → (row_of b.kind).parameters → period ≤ 4096 → added (lag_into diagram (attributes_of diagram) block b target period) ≤ 1024 * 4096
+pub lag_into_small : (diagram : Diagram) (block : ℕ) (b : Block) (target : Target) (period : ℕ)
+    → (row_of b.kind).parameters → period ≤ 4096
+    → added (lag_into diagram (attributes_of diagram) block b target period) ≤ 1024 * 4096
 lag_into_small diagram block b (Port port) period has short =
-    lag_small (row_of b.kind).timing.reads (row_of b.kind).timing.delay b.enable (is_slow_to_fast (period_into diagram (attributes_of diagram) block 1) ((attributes_of diagram).period_at block)) period (delay_small b.kind has) short
+    lag_small (row_of b.kind).timing.reads (row_of b.kind).timing.delay b.enable
+    (is_slow_to_fast (period_into diagram (attributes_of diagram) block 1)
+    ((attributes_of diagram).period_at block)) period (delay_small b.kind has) short
 lag_into_small diagram block b Enable period has short = omega arith
 
-module _ (small : LatenciesAreSmall) (short : PeriodsAreShort) (diagram : Diagram) (plan : Resolved) (times : Times) (places : Places) (s : IsScheduled diagram plan times) (timed : IsTimed diagram (attributes_of diagram) (timing_by diagram plan times)) (now : Circuit) where
+module _ (small : LatenciesAreSmall) (short : PeriodsAreShort) (diagram : Diagram) (plan : Resolved) (times : Times)
+    (places : Places) (s : IsScheduled diagram plan times)
+    (timed : IsTimed diagram (attributes_of diagram) (timing_by diagram plan times)) (now : Circuit) where
   -- each want of an end of the schedule may be asked, where the hub has a word that has what the chain has first
-  pub end_may_ask : (block : ℕ) (b : Block) (target : Target) (from p : ℕ) (first : ℤ) (hub : ℕ) (want : Want) → slice_get diagram.blocks block ≡ Some b → (row_of b.kind).parameters → 1 ≤ shown_ports b.kind b.outputs → Feeds diagram block b target from → (attributes_of diagram).period_at from ≡ Some p
+  pub end_may_ask : (block : ℕ) (b : Block) (target : Target) (from p : ℕ) (first : ℤ) (hub : ℕ) (want : Want)
+      → slice_get diagram.blocks block ≡ Some b → (row_of b.kind).parameters → 1 ≤ shown_ports b.kind b.outputs
+      → Feeds diagram block b target from → (attributes_of diagram).period_at from ≡ Some p
       → IsEndWant diagram (timing_by diagram plan times) block b target from p first hub want → IsHubNet now hub (first_of want.feed.first) → IsWant now want
   end_may_ask block b target from p first hub want at has showing feeds moves is net =
       let wide = short diagram from p s.checked moves in
@@ -82,4 +105,5 @@ module _ (small : LatenciesAreSmall) (short : PeriodsAreShort) (diagram : Diagra
       let behind = little_behind small short diagram plan times s from p moves in
       let late = little_late small short diagram plan times s block in
       let lag = lag_into_small diagram block b target p has wide in
-      want_is diagram (timing_by diagram plan times) places now block b target from first hub p want timed at showing feeds moves is net wide own_wide (omega (arith, behind)) (omega (arith, late, lag))
+      want_is diagram (timing_by diagram plan times) places now block b target from first hub p want timed at
+      showing feeds moves is net wide own_wide (omega (arith, behind)) (omega (arith, late, lag))

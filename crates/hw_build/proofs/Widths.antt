@@ -35,13 +35,17 @@ width_listed law diagram checked block b port at from to =
     ap (λ (xs : List ℕ). slice_get xs (port - 1)) (sym same) ∙ here ∙ ap (λ (x : ℕ). Some (width_into diagram (attributes_of diagram) block x)) number
 
 -- element by element
-pub repeated_into : WidthsAreOfEdges → (diagram : Diagram) → IsChecked diagram → (block : ℕ) (b : Block) (port : ℕ) → slice_get diagram.blocks block ≡ Some b → (row_of b.kind).signal.shape ≡ Shape.Elementwise → 1 ≤ port → port ≤ b.inputs
+pub repeated_into : WidthsAreOfEdges → (diagram : Diagram) → IsChecked diagram → (block : ℕ) (b : Block) (port : ℕ)
+    → slice_get diagram.blocks block ≡ Some b → (row_of b.kind).signal.shape ≡ Shape.Elementwise → 1 ≤ port
+    → port ≤ b.inputs
     → IsRepeated ((attributes_of diagram).width_at block 1) (width_into diagram (attributes_of diagram) block port)
 repeated_into law diagram checked block b port at shape from to =
     let keeps = checked.dimensions.blocks block b at in
     let agrees : Agrees Shape.Elementwise (slice_index_or (widths_of diagram) block []) (input_widths diagram (widths_of diagram) block) =
     subst (λ (s : Shape). Agrees s (slice_index_or (widths_of diagram) block []) (input_widths diagram (widths_of diagram) block)) shape keeps.agrees in
-    held (IsRepeated ((attributes_of diagram).width_at block 1)) (input_widths diagram (widths_of diagram) block) (port - 1) (width_into diagram (attributes_of diagram) block port) agrees (width_listed law diagram checked block b port at from to)
+    held (IsRepeated ((attributes_of diagram).width_at block 1)) (input_widths diagram (widths_of diagram) block)
+    (port - 1) (width_into diagram (attributes_of diagram) block port) agrees
+    (width_listed law diagram checked block b port at from to)
 
 -- a block with a list parameter has elements
 first_width : (diagram : Diagram) → IsChecked diagram → (block : ℕ) (b : Block) → slice_get diagram.blocks block ≡ Some b → (row_of b.kind).signal.shape ≡ Shape.Elementwise
@@ -56,7 +60,9 @@ first_width diagram checked block b at shape =
 one_list : (list : List Decimal) → 1 ≤ length list → 1 ≤ greatest (map length (list ∷ []))
 one_list list some = omega (arith, some)
 
-has_elements : (diagram : Diagram) → IsChecked diagram → (block : ℕ) (b : Block) → slice_get diagram.blocks block ≡ Some b → (row_of b.kind).signal.shape ≡ Shape.Elementwise → 1 ≤ list_length b.kind → 0 < (attributes_of diagram).width_at block 1
+has_elements : (diagram : Diagram) → IsChecked diagram → (block : ℕ) (b : Block)
+    → slice_get diagram.blocks block ≡ Some b → (row_of b.kind).signal.shape ≡ Shape.Elementwise
+    → 1 ≤ list_length b.kind → 0 < (attributes_of diagram).width_at block 1
 has_elements diagram checked block b at shape some = let e = first_width diagram checked block b at shape in omega (arith, e, some)
 
 -- what has registers on its line
@@ -86,7 +92,9 @@ late_are_wide law diagram checked = record {
       let reads : is_late (row_of b.kind).timing.reads ≡ true = late_reading (row_of b.kind).timing.reads (row_of b.kind).timing.delay b.enable _ source lag late in
       let shape = late_shape b.kind reads in
       let readable = held IsReadable diagram.blocks block b checked.wired.blocks at in
-      let width : width_into diagram (attributes_of diagram) block port ≡ (attributes_of diagram).width_at edge.from edge.from_port = ap (λ (o : Option Edge). at_source o 0 (attributes_of diagram).width_at) drives in (
+      let width : width_into diagram (attributes_of diagram) block port
+      ≡ (attributes_of diagram).width_at edge.from edge.from_port =
+      ap (λ (o : Option Edge). at_source o 0 (attributes_of diagram).width_at) drives in (
         has_elements diagram checked block b at shape (late_list b.kind readable.parameters reads),
         subst (λ (w : ℕ). IsRepeated ((attributes_of diagram).width_at block 1) w) width (repeated_into law diagram checked block b port at shape from to),
       );

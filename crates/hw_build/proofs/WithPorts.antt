@@ -46,7 +46,9 @@ module _ (now : Circuit) (inputs outputs : List NetPort) where
   }
 
   -- ports change no net
-  pub way_ported : (diagram : Diagram) (plan : Resolved) (times : Times) (places : Places) (place_of : ℕ → ℕ) (closed hubs : ℕ) (level : ℕ → ℕ) (count : ℕ) → IsUnderWay diagram (timing_by diagram plan times) places place_of closed hubs now level count
+  pub way_ported : (diagram : Diagram) (plan : Resolved) (times : Times) (places : Places) (place_of : ℕ → ℕ)
+      (closed hubs : ℕ) (level : ℕ → ℕ) (count : ℕ)
+      → IsUnderWay diagram (timing_by diagram plan times) places place_of closed hubs now level count
       → IsUnderWay diagram (timing_by diagram plan times) places place_of closed hubs ported level count
   way_ported diagram plan times places place_of closed hubs level count way = record {
     facts = facts_later diagram (timing_by diagram plan times) places closed closed hubs now ported count (omega arith) (goes_ported closed hubs) way.facts;
@@ -57,7 +59,8 @@ module _ (now : Circuit) (inputs outputs : List NetPort) where
     differ = way.differ;
   }
 
-  pub units_ported : (diagram : Diagram) (plan : Resolved) (times : Times) (places : Places) (closed hubs : ℕ) → HaveUnits diagram plan times places closed hubs now → HaveUnits diagram plan times places closed hubs ported
+  pub units_ported : (diagram : Diagram) (plan : Resolved) (times : Times) (places : Places) (closed hubs : ℕ)
+      → HaveUnits diagram plan times places closed hubs now → HaveUnits diagram plan times places closed hubs ported
   units_ported diagram plan times places closed hubs have = record {
     each = λ number o b is at.
         let unit = have.each number o b is at in
@@ -97,7 +100,9 @@ output_shown diagram wired listed k e at =
     let of = (listed diagram (attributes_of diagram) wired).elements_of k e at in
     let role = role_is_output (row_of of.0.kind).place.role e.number of.2 in
     let ports : ports_of_role (row_of of.0.kind).place.role of.0.outputs ≡ 1 = ap (λ (r : Role). ports_of_role r of.0.outputs) role in
-    let wide : width_of_role diagram (attributes_of diagram) (row_of of.0.kind).place.role e.block 1 ≡ width_into diagram (attributes_of diagram) e.block 1 = ap (λ (r : Role). width_of_role diagram (attributes_of diagram) r e.block 1) role in
+    let wide : width_of_role diagram (attributes_of diagram) (row_of of.0.kind).place.role e.block 1
+    ≡ width_into diagram (attributes_of diagram) e.block 1 =
+    ap (λ (r : Role). width_of_role diagram (attributes_of diagram) r e.block 1) role in
     let low = of.3 in
     record {
       b = of.0;

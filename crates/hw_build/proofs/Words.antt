@@ -17,7 +17,9 @@ use Rattle.hw_lower.proofs.PlanWaves.{value-in}
 -- ---- ranges
 
 -- a net of a word shows numbers of it
-pub shows_word : (netlist : Circuit) (n : ℕ) (inputs : Inputs) (rows : Rows) (number width : ℕ) (signed : Bool) → NetRows netlist n inputs rows → HasWord netlist.nets number width signed → (c : ℕ) → c < n → InWord width signed (rows number c)
+pub shows_word : (netlist : Circuit) (n : ℕ) (inputs : Inputs) (rows : Rows) (number width : ℕ) (signed : Bool)
+    → NetRows netlist n inputs rows → HasWord netlist.nets number width signed → (c : ℕ) → c < n
+    → InWord width signed (rows number c)
 shows_word netlist n inputs rows number width signed is word c below =
     subst (λ (w : ℕ). InWord w signed (rows number c)) word.wide (subst (λ (s : Bool). InWord word.net.width s (rows number c)) word.sign (is.in_word number word.net word.is c below))
 
@@ -26,7 +28,9 @@ counted_values rows clock [] = refl
 counted_values rows clock (arg ∷ args) = ap suc (counted_values rows clock args)
 
 -- so nets of the words of types show numbers in their ranges
-pub in_ranges : (netlist : Circuit) (n : ℕ) (inputs : Inputs) (rows : Rows) (types : List FxType) (args : List ℕ) → NetRows netlist n inputs rows → AreArgs netlist types args → (c : ℕ) → c < n → AreInRange types (values_at rows args c)
+pub in_ranges : (netlist : Circuit) (n : ℕ) (inputs : Inputs) (rows : Rows) (types : List FxType) (args : List ℕ)
+    → NetRows netlist n inputs rows → AreArgs netlist types args → (c : ℕ) → c < n
+    → AreInRange types (values_at rows args c)
 in_ranges netlist n inputs rows types args is are c below = record {
   count = counted_values rows c args ∙ are.count;
   in_range = λ input inside.

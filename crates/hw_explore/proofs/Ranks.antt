@@ -79,7 +79,8 @@ module _ (rows : List Finding) (place : ℕ) (finding : Finding) (there : slice_
   }
 
   -- none there is better than the rank of this one
-  not_there : (rank : Rank) → IsRanked finding rank → (k : ℕ) (other : Finding) (better : Rank) → place ≤ k → k < place + 1 → slice_get rows k ≡ Some other → IsRanked other better → ¬ IsBetter better rank
+  not_there : (rank : Rank) → IsRanked finding rank → (k : ℕ) (other : Finding) (better : Rank) → place ≤ k
+      → k < place + 1 → slice_get rows k ≡ Some other → IsRanked other better → ¬ IsBetter better rank
   not_there rank ranked k other better past below at also =
       let own = subst (λ (f : Finding). IsRanked f better) (sym (same_there k other past below at)) also in
       subst (λ (r : Rank). ¬ IsBetter r rank) (one_rank finding rank better ranked own) (not_better_self rank)
@@ -95,7 +96,8 @@ module _ (rows : List Finding) (place : ℕ) (finding : Finding) (there : slice_
     ];
   }
 
-  pub best_new : (rank : Rank) (at : ℕ) (best : Best) → at ≡ place → IsRanked finding rank → IsBetter rank best.rank → IsBestAt rows place best → IsBestAt rows (place + 1) (record { place = at; rank = rank })
+  pub best_new : (rank : Rank) (at : ℕ) (best : Best) → at ≡ place → IsRanked finding rank → IsBetter rank best.rank
+      → IsBestAt rows place best → IsBestAt rows (place + 1) (record { place = at; rank = rank })
   best_new rank at best at_is ranked beats is = record {
     finding = finding;
     there = subst (λ (j : ℕ). slice_get rows j ≡ Some finding) (sym at_is) there;

@@ -20,11 +20,15 @@ module _ (P : ℕ → Finding → Type 0) (from count : ℕ) (rows : List Findin
       let wide = length-range_with_len from count in
       let is : slice_get (range_with_len from count) place ≡ Some (from + place) =
       slice_get-get_or (range_with_len from count) place 0 (omega (arith, below, wide)) ∙ ap Some (get_or-range_with_len from count place 0 below) in
-      let right = subst (λ (o : Option Finding). MatchOption o (Unit {0}) (λ y. IsSomeAnd (slice_get (range_with_len from count) place) (λ x. P x y))) at (AllZip-right P (range_with_len from count) rows all place) in
+      let right = subst (λ (o : Option Finding). MatchOption o (Unit {0})
+      (λ y. IsSomeAnd (slice_get (range_with_len from count) place) (λ x. P x y))) at
+      (AllZip-right P (range_with_len from count) rows all place) in
       subst (λ (o : Option ℕ). IsSomeAnd o (λ x. P x row)) is right
 
 -- and where no worker was without memory it is found so
-pub found_all : (P : ℕ → Finding → Type 0) (numbers : List ℕ) (rows : List Finding) → AllZip (λ place (row : Result Finding OutOfMemory). IfOk row (P place)) numbers (map Ok rows) → AllZip P numbers rows
+pub found_all : (P : ℕ → Finding → Type 0) (numbers : List ℕ) (rows : List Finding)
+    → AllZip (λ place (row : Result Finding OutOfMemory). IfOk row (P place)) numbers (map Ok rows)
+    → AllZip P numbers rows
 found_all P [] [] all = tt
 found_all P [] (row ∷ rows) all = absurd all
 found_all P (number ∷ numbers) [] all = absurd all

@@ -11,7 +11,9 @@ use Rattle.hw_rules.specs.Rules.{BreaksTimes}
 use Rattle.hw_rules.specs.Times.{AreTimes, timing_in}
 use Rattle.hw_explore.specs.Candidates.{IsGood}
 
-pub is_good : (diagram : Diagram) (plan : Resolved) (times : Times) (count : ℕ) → AreTimes diagram plan times → count ≡ owed diagram (attributes_of diagram) plan (timing_in times) → IsGood diagram plan count times.sizing.latency
+pub is_good : (diagram : Diagram) (plan : Resolved) (times : Times) (count : ℕ) → AreTimes diagram plan times
+    → count ≡ owed diagram (attributes_of diagram) plan (timing_in times)
+    → IsGood diagram plan count times.sizing.latency
 is_good diagram plan times count are is = record {
   timing = timing_in times;
   keeps = record { timed = are.slots.timed; budget = are.slots.budget; size = are.size.keeps };

@@ -56,7 +56,9 @@ module _ (old : Circuit) (runs : IsNetlist old) (emits : IsEmittable old) (roots
   net-there k below = slice_get-get_or old.nets k no_net below
 
   reads-below : (k read : ℕ) → k < count → Contains (reads (net_at old.nets k).kind) read → read < count
-  reads-below k read below c = all-in (λ (r : ℕ). r < count) (reads (net_at old.nets k).kind) (all-at (λ (n : Net). All (λ (r : ℕ). r < count) (reads n.kind)) old.nets runs.there k (net_at old.nets k) (net-there k below)) read c
+  reads-below k read below c = all-in (λ (r : ℕ). r < count) (reads (net_at old.nets k).kind)
+      (all-at (λ (n : Net). All (λ (r : ℕ). r < count) (reads n.kind)) old.nets runs.there k (net_at old.nets k)
+      (net-there k below)) read c
 
   standing : (k : ℕ) → k < count → IsStanding old root (places count) k
   standing k below = record { other = root k; at = places-at count (root k) (folded.folding.inside k below); wide = folded.folding.wide k below; sign = folded.folding.sign k below }
@@ -238,9 +240,15 @@ module _ (old : Circuit) (runs : IsNetlist old) (emits : IsEmittable old) (roots
 
   factors : AllZip Both (products_of old) (products_of new)
   factors =
-      let units = zip-each units-in (λ k below. unit-zip root (λ a b. root a ≡ b) (net_at old.nets k).width (net_at old.nets k).width (net_at old.nets k).kind (λ read c. refl)) (places count) (places-below count) in
-      let combs = zip-each combs-in (λ k below. comb-zip root (λ a b. root a ≡ b) (net_at old.nets k).width (net_at old.nets k).width old.nets old.cycles (length old.inputs) (net_at old.nets k).width (net_at old.nets k).signed (net_at old.nets k).kind
-      (all-at (λ (n : Net). IsKind old.nets old.cycles (length old.inputs) n.width n.signed n.kind) old.nets runs.kinds k (net_at old.nets k) (net-there k below)) (λ read c. refl)) (places count) (places-below count) in
+      let units = zip-each units-in (λ k below. unit-zip root (λ a b. root a ≡ b) (net_at old.nets k).width
+      (net_at old.nets k).width (net_at old.nets k).kind (λ read c. refl)) (places count)
+      (places-below count) in
+      let combs = zip-each combs-in (λ k below. comb-zip root (λ a b. root a ≡ b) (net_at old.nets k).width
+      (net_at old.nets k).width old.nets old.cycles (length old.inputs) (net_at old.nets k).width
+      (net_at old.nets k).signed (net_at old.nets k).kind
+      (all-at (λ (n : Net). IsKind old.nets old.cycles (length old.inputs) n.width n.signed n.kind) old.nets
+      runs.kinds k (net_at old.nets k) (net-there k below)) (λ read c. refl)) (places count)
+      (places-below count) in
       subst (AllZip Both (products_of old)) (sym (products-are new)) (zip-append Both _ (flat_map units-in new.nets) _ (flat_map combs-in new.nets) units combs)
 
   pub represents : Represents old new root

@@ -24,7 +24,9 @@ pub labels-below : (netlist : Circuit) → IsEmittable netlist → All (λ (labe
 labels-below netlist emits = all-from (λ (label : NetLabel). label.net < length netlist.nets) netlist.labels (λ k label is. emits.labels.there label (stands netlist.labels k label is))
 
 -- what is pinned changes no size
-pub can-still : (nets : List Net) (own alone own' alone' : List Bool) (roots : List ℕ) (done : List Bool) → KeepsMarks own own' → KeepsMarks alone alone' → CanFold nets own alone roots done → CanFold nets own' alone' roots done
+pub can-still : (nets : List Net) (own alone own' alone' : List Bool) (roots : List ℕ) (done : List Bool)
+    → KeepsMarks own own' → KeepsMarks alone alone' → CanFold nets own alone roots done
+    → CanFold nets own' alone' roots done
 can-still nets own alone own' alone' roots done one two can = record {
   sizes = record { there = can.sizes.there; alone = two.size ∙ can.sizes.alone; roots = can.sizes.roots; done = can.sizes.done };
   own_size = one.size ∙ can.own_size;
@@ -76,9 +78,16 @@ module _ (old : Circuit) (runs : IsNetlist old) (emits : IsEmittable old) (roots
     there = all-from (λ (k : ℕ). k < length old.nets) (places (length old.nets)) (λ i k is. places-below (length old.nets) k (stands (places (length old.nets)) i k is));
     nets = all-from (λ (net : Net). All (λ (read : ℕ). read < length roots) (reads net.kind)) old.nets (λ k net is.
         all-from (λ (read : ℕ). read < length roots) (reads net.kind) (λ i read at.
-        below read (all-in (λ (r : ℕ). r < length old.nets) (reads net.kind) (all-in (λ (n : Net). All (λ (r : ℕ). r < length old.nets) (reads n.kind)) old.nets runs.there net (stands old.nets k net is)) read (stands (reads net.kind) i read at))));
-    inputs = all-from (λ (port : NetPort). port.net < length roots) old.inputs (λ k port is. below port.net (let shown = runs.inputs k port is in slice_get_within old.nets port.net shown.net shown.is));
-    outputs = all-from (λ (port : NetPort). port.net < length roots) old.outputs (λ k port is. below port.net (all-in (λ (p : NetPort). p.net < length old.nets) old.outputs runs.outputs port (stands old.outputs k port is)));
+        below read (all-in (λ (r : ℕ). r < length old.nets) (reads net.kind)
+        (all-in (λ (n : Net). All (λ (r : ℕ). r < length old.nets) (reads n.kind)) old.nets runs.there net
+        (stands old.nets k net is)) read (stands (reads net.kind) i read at))));
+    inputs = all-from (λ (port : NetPort). port.net < length roots) old.inputs
+        (λ k port is. below port.net
+        (let shown = runs.inputs k port is in slice_get_within old.nets port.net shown.net shown.is));
+    outputs = all-from (λ (port : NetPort). port.net < length roots) old.outputs
+        (λ k port is. below port.net (all-in
+        (λ (p : NetPort). p.net < length old.nets) old.outputs runs.outputs port
+        (stands old.outputs k port is)));
     labels = all-from (λ (label : NetLabel). label.net < length roots) old.labels (λ k label is. below label.net (emits.labels.there label (stands old.labels k label is)));
   }
 

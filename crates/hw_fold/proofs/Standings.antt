@@ -1,5 +1,6 @@
 -- Net after net gets what stands for it.
-use Rattle.std.proofs.Common.{◌≡◌, ◌≢◌, ℕ, zero, suc, ◌+◌, ◌<◌, ◌≤◌, inl, inr, Bool, true, false, List, [], ◌∷◌, map, length, All, Contains, set, slice_index, refl, ap, sym, ◌∙◌, subst, arith, length-set}
+use Rattle.std.proofs.Common.{◌≡◌, ◌≢◌, ℕ, zero, suc, ◌+◌, ◌<◌, ◌≤◌, inl, inr, Bool, true, false, List, [], ◌∷◌, map, length, All, Contains, set, slice_index, refl, ap, sym, ◌∙◌, subst, arith}
+use Rattle.std.proofs.Common.{length-set}
 use Rattle.std.proofs.lemmas.Bool.{cases_eq}
 use Rattle.std.proofs.lemmas.List.{get_or-set_same, get_or-set_other}
 use Rattle.std.proofs.lemmas.Option.{get_or_from_slice_get, slice_get-get_or}
@@ -178,12 +179,16 @@ module _ (rank : ℕ → ℕ) (fold : Fold) (k : ℕ) (inside : k < length fold.
   settled own other (inr lent) = goes other lent.found lent.free
 
 -- nets that are marked stand for themselves still
-pub pinned-still : (own : List Bool) (fold : Fold) (k other : ℕ) → k < length fold.roots → StandsFor own fold k other → ArePinned own fold → ArePinned own (record fold { roots = set fold.roots k other; done = set fold.done k true })
+pub pinned-still : (own : List Bool) (fold : Fold) (k other : ℕ) → k < length fold.roots
+    → StandsFor own fold k other → ArePinned own fold
+    → ArePinned own (record fold { roots = set fold.roots k other; done = set fold.done k true })
 pinned-still own fold k other inside stands pinned = record {
   size = pinned.size;
   each = λ j below marked. elim (cases_eq j k) [
     | inr apart ↦ get_or-set_other fold.roots k j other 0 apart ∙ pinned.each j below marked
-    | inl same ↦ (let at = get_or-set_same fold.roots k other 0 inside in subst (λ (i : ℕ). place_in (set fold.roots k other) i ≡ i) (sym same) (at ∙ self stands (subst (λ (i : ℕ). is_marked own i ≡ true) same marked)))
+    | inl same ↦ (let at = get_or-set_same fold.roots k other 0 inside in
+        subst (λ (i : ℕ). place_in (set fold.roots k other) i ≡ i) (sym same)
+        (at ∙ self stands (subst (λ (i : ℕ). is_marked own i ≡ true) same marked)))
   ];
 }
   where
@@ -217,7 +222,9 @@ module _ (nets : List Net) (own alone : List Bool) (roots : List ℕ) (done : Li
   pinned-first = record { size = can.own_size; each = λ k below marked. itself k below }
 
 -- a net of the order is not done before its turn
-pub not-yet : (nets : List Net) (order : List ℕ) (ordered : IsOrder nets order) (i : ℕ) → i < length order → (fold : Fold) → slice_index order i < length fold.nets → IsFolding ordered.rank i fold → is_marked fold.done (slice_index order i) ≡ false
+pub not-yet : (nets : List Net) (order : List ℕ) (ordered : IsOrder nets order) (i : ℕ) → i < length order
+    → (fold : Fold) → slice_index order i < length fold.nets → IsFolding ordered.rank i fold
+    → is_marked fold.done (slice_index order i) ≡ false
 not-yet nets order ordered i below fold inside folding = by (is_marked fold.done (slice_index order i)) refl
   where
     by : (b : Bool) → is_marked fold.done (slice_index order i) ≡ b → is_marked fold.done (slice_index order i) ≡ false

@@ -25,13 +25,15 @@ pub record IsListing (diagram : Diagram) (plan : Resolved) (fed : List Bool) (ar
   pub is : arcs ++ map (arc_of diagram (attributes_of diagram) plan fed) rest ≡ latency_arcs diagram plan fed
   pub known : AreKnown arcs (length diagram.blocks)
 
-pub listing_begins : (diagram : Diagram) (plan : Resolved) (fed : List Bool) (arcs : List Arc) → arcs ≡ [] → IsListing diagram plan fed arcs (map signal_edge (drop 0 diagram.edges) ++ enable_edges_from 0 diagram.blocks)
+pub listing_begins : (diagram : Diagram) (plan : Resolved) (fed : List Bool) (arcs : List Arc) → arcs ≡ []
+    → IsListing diagram plan fed arcs (map signal_edge (drop 0 diagram.edges) ++ enable_edges_from 0 diagram.blocks)
 listing_begins diagram plan fed arcs none = rw none record {
   is = refl;
   known = record { from = λ number arc at. absurd (none-some arc at); to = λ number arc at. absurd (none-some arc at); gain = λ number arc at. absurd (none-some arc at) };
 }
 
-pub listing_more : (diagram : Diagram) (plan : Resolved) (fed : List Bool) (arcs : List Arc) (edge : LatencyEdge) (rest : List LatencyEdge) (arc : Arc) → arc ≡ arc_of diagram (attributes_of diagram) plan fed edge
+pub listing_more : (diagram : Diagram) (plan : Resolved) (fed : List Bool) (arcs : List Arc) (edge : LatencyEdge)
+    (rest : List LatencyEdge) (arc : Arc) → arc ≡ arc_of diagram (attributes_of diagram) plan fed edge
     → arc.from < length diagram.blocks → arc.to < length diagram.blocks → arc.gain ≤ most_gain → IsListing diagram plan fed arcs (edge ∷ rest) → IsListing diagram plan fed (arcs ++ arc ∷ []) rest
 listing_more diagram plan fed arcs edge rest arc is from to small listing = record {
   is = append_assoc arcs (arc ∷ []) (map (arc_of diagram (attributes_of diagram) plan fed) rest) ∙ ap (λ a. arcs ++ (a ∷ map (arc_of diagram (attributes_of diagram) plan fed) rest)) is ∙ listing.is;
@@ -42,7 +44,9 @@ listing_more diagram plan fed arcs edge rest arc is from to small listing = reco
   };
 }
 
-pub line_listed : (diagram : Diagram) (plan : Resolved) (fed : List Bool) (arcs : List Arc) (i : ℕ) (edge : Edge) (arc : Arc) → IsWired diagram → slice_get diagram.edges i ≡ Some edge → arc ≡ arc_between diagram (attributes_of diagram) plan fed edge.from edge.to
+pub line_listed : (diagram : Diagram) (plan : Resolved) (fed : List Bool) (arcs : List Arc) (i : ℕ) (edge : Edge)
+    (arc : Arc) → IsWired diagram → slice_get diagram.edges i ≡ Some edge
+    → arc ≡ arc_between diagram (attributes_of diagram) plan fed edge.from edge.to
     → arc.from ≡ edge.from → arc.to ≡ edge.to → arc.gain ≤ most_gain → IsListing diagram plan fed arcs (map signal_edge (drop i diagram.edges) ++ enable_edges_from 0 diagram.blocks)
     → IsListing diagram plan fed (arcs ++ arc ∷ []) (map signal_edge (drop (i + 1) diagram.edges) ++ enable_edges_from 0 diagram.blocks)
 line_listed diagram plan fed arcs i edge arc wired at is from to small listing =
@@ -51,18 +55,27 @@ line_listed diagram plan fed arcs i edge arc wired at is from to small listing =
     (subst (λ b. b < length diagram.blocks) (sym to) (to_there diagram i edge wired at)) small
     (subst (λ es. IsListing diagram plan fed arcs es) (lines_from diagram i edge (enable_edges_from 0 diagram.blocks) at) listing)
 
-pub lines_listed : (diagram : Diagram) (plan : Resolved) (fed : List Bool) (arcs : List Arc) (i : ℕ) → length diagram.edges ≤ i → IsListing diagram plan fed arcs (map signal_edge (drop i diagram.edges) ++ enable_edges_from 0 diagram.blocks)
+pub lines_listed : (diagram : Diagram) (plan : Resolved) (fed : List Bool) (arcs : List Arc) (i : ℕ)
+    → length diagram.edges ≤ i → IsListing diagram plan fed arcs
+    (map signal_edge (drop i diagram.edges) ++ enable_edges_from 0 diagram.blocks)
     → IsListing diagram plan fed arcs (enable_edges_from 0 (drop 0 diagram.blocks))
-lines_listed diagram plan fed arcs i end listing = subst (λ es. IsListing diagram plan fed arcs es) (ap (λ es. map signal_edge es ++ enable_edges_from 0 diagram.blocks) (drop_all i diagram.edges end)) listing
+lines_listed diagram plan fed arcs i end listing =
+    subst (λ es. IsListing diagram plan fed arcs es)
+    (ap (λ es. map signal_edge es ++ enable_edges_from 0 diagram.blocks) (drop_all i diagram.edges end)) listing
 
 -- ---- controls
 
 pub record IsControlListed (diagram : Diagram) (plan : Resolved) (fed : List Bool) (arcs : List Arc) (place : ℕ) (rest : List LatencyEdge) (control : Option ℕ) : Type 0 where
   pub none : control ≡ None → IsListing diagram plan fed arcs rest
-  pub some : (source : ℕ) (arc : Arc) → control ≡ Some source → arc ≡ arc_between diagram (attributes_of diagram) plan fed source place → arc.from ≡ source → arc.to ≡ place → arc.gain ≤ most_gain → IsListing diagram plan fed (arcs ++ arc ∷ []) rest
+  pub some : (source : ℕ) (arc : Arc) → control ≡ Some source
+      → arc ≡ arc_between diagram (attributes_of diagram) plan fed source place → arc.from ≡ source → arc.to ≡ place
+      → arc.gain ≤ most_gain → IsListing diagram plan fed (arcs ++ arc ∷ []) rest
 
-by_asking : (diagram : Diagram) (plan : Resolved) (fed : List Bool) (arcs : List Arc) (place : ℕ) (block : Block) (rest : List LatencyEdge) → IsWired diagram → slice_get diagram.blocks place ≡ Some block
-    → (asks : Bool) (enable : Option ℕ) → block.enable ≡ enable → IsListing diagram plan fed arcs (enable_edge place asks enable ++ rest) → IsControlListed diagram plan fed arcs place rest (cond asks enable None)
+by_asking : (diagram : Diagram) (plan : Resolved) (fed : List Bool) (arcs : List Arc) (place : ℕ) (block : Block)
+    (rest : List LatencyEdge) → IsWired diagram → slice_get diagram.blocks place ≡ Some block
+    → (asks : Bool) (enable : Option ℕ) → block.enable ≡ enable
+    → IsListing diagram plan fed arcs (enable_edge place asks enable ++ rest)
+    → IsControlListed diagram plan fed arcs place rest (cond asks enable None)
 by_asking diagram plan fed arcs place block rest wired there false None is listing = record { none = λ e. listing; some = λ source arc e. absurd (none-some source e) }
 by_asking diagram plan fed arcs place block rest wired there false (Some control) is listing = record { none = λ e. listing; some = λ source arc e. absurd (none-some source e) }
 by_asking diagram plan fed arcs place block rest wired there true None is listing = record { none = λ e. listing; some = λ source arc e. absurd (none-some source e) }
@@ -76,32 +89,45 @@ by_asking diagram plan fed arcs place block rest wired there true (Some control)
       (subst (λ b. b < length diagram.blocks) (sym to) (slice_get_within diagram.blocks place block there)) small listing;
 }
 
-pub control_listed : (diagram : Diagram) (plan : Resolved) (fed : List Bool) (arcs : List Arc) (i : ℕ) (block : Block) → IsWired diagram → slice_get diagram.blocks i ≡ Some block → IsListing diagram plan fed arcs (enable_edges_from i (drop i diagram.blocks))
+pub control_listed : (diagram : Diagram) (plan : Resolved) (fed : List Bool) (arcs : List Arc) (i : ℕ)
+    (block : Block) → IsWired diagram → slice_get diagram.blocks i ≡ Some block
+    → IsListing diagram plan fed arcs (enable_edges_from i (drop i diagram.blocks))
     → IsControlListed diagram plan fed arcs i (enable_edges_from (i + 1) (drop (i + 1) diagram.blocks)) (control_ever block)
 control_listed diagram plan fed arcs i block wired at listing =
     by_asking diagram plan fed arcs i block (enable_edges_from (i + 1) (drop (i + 1) diagram.blocks)) wired at (asks_ever (row_of block.kind).timing.asks) block.enable refl
     (subst (λ es. IsListing diagram plan fed arcs es) (controls_from diagram i block at) listing)
 
-pub listing_ends : (diagram : Diagram) (plan : Resolved) (fed : List Bool) (arcs : List Arc) (i : ℕ) → length diagram.blocks ≤ i → IsListing diagram plan fed arcs (enable_edges_from i (drop i diagram.blocks)) → arcs ≡ latency_arcs diagram plan fed
+pub listing_ends : (diagram : Diagram) (plan : Resolved) (fed : List Bool) (arcs : List Arc) (i : ℕ)
+    → length diagram.blocks ≤ i → IsListing diagram plan fed arcs (enable_edges_from i (drop i diagram.blocks))
+    → arcs ≡ latency_arcs diagram plan fed
 listing_ends diagram plan fed arcs i end listing =
     sym (append-nil arcs) ∙ ap (λ es. arcs ++ map (arc_of diagram (attributes_of diagram) plan fed) es) (sym (ap (enable_edges_from i) (drop_all i diagram.blocks end))) ∙ listing.is
 
 -- ---- as the code puts them
 
-pub line_put : (diagram : Diagram) (plan : Resolved) (fed : List Bool) (arcs after : List Arc) (i : ℕ) (slice : List Edge) (d : Edge) → IsWired diagram → slice ≡ diagram.edges → i < length slice → IsArcPut diagram plan fed arcs after (get_or slice i d).from (get_or slice i d).to
-    → IsListing diagram plan fed arcs (map signal_edge (drop i diagram.edges) ++ enable_edges_from 0 diagram.blocks) → IsListing diagram plan fed after (map signal_edge (drop (i + 1) diagram.edges) ++ enable_edges_from 0 diagram.blocks)
+pub line_put : (diagram : Diagram) (plan : Resolved) (fed : List Bool) (arcs after : List Arc) (i : ℕ)
+    (slice : List Edge) (d : Edge) → IsWired diagram → slice ≡ diagram.edges → i < length slice
+    → IsArcPut diagram plan fed arcs after (get_or slice i d).from (get_or slice i d).to
+    → IsListing diagram plan fed arcs (map signal_edge (drop i diagram.edges) ++ enable_edges_from 0 diagram.blocks)
+    → IsListing diagram plan fed after
+    (map signal_edge (drop (i + 1) diagram.edges) ++ enable_edges_from 0 diagram.blocks)
 line_put diagram plan fed arcs after i slice d wired same inside put listing =
     let at : slice_get diagram.edges i ≡ Some (get_or slice i d) = ap (λ (es : List Edge). slice_get es i) (sym same) ∙ slice_get-get_or slice i d inside in
     subst (λ (as_put : List Arc). IsListing diagram plan fed as_put (map signal_edge (drop (i + 1) diagram.edges) ++ enable_edges_from 0 diagram.blocks)) (sym put.put)
     (line_listed diagram plan fed arcs i (get_or slice i d) put.arc wired at put.is put.begins put.ends put.small listing)
 
-pub control_put : (diagram : Diagram) (plan : Resolved) (fed : List Bool) (arcs after : List Arc) (i : ℕ) → IsWired diagram → i < length diagram.blocks → IsControlPut diagram plan fed arcs after i → IsListing diagram plan fed arcs (enable_edges_from i (drop i diagram.blocks))
+pub control_put : (diagram : Diagram) (plan : Resolved) (fed : List Bool) (arcs after : List Arc) (i : ℕ)
+    → IsWired diagram → i < length diagram.blocks → IsControlPut diagram plan fed arcs after i
+    → IsListing diagram plan fed arcs (enable_edges_from i (drop i diagram.blocks))
     → IsListing diagram plan fed after (enable_edges_from (i + 1) (drop (i + 1) diagram.blocks))
 control_put diagram plan fed arcs after i wired inside puts listing =
     let block = get_some diagram.blocks i inside in
     by_control (control_ever block.0) (control_listed diagram plan fed arcs i block.0 wired block.1 listing) (puts.put block.0 block.1)
   where
-    by_control : (control : Option ℕ) → IsControlListed diagram plan fed arcs i (enable_edges_from (i + 1) (drop (i + 1) diagram.blocks)) control → IsPutBy diagram plan fed arcs after i control → IsListing diagram plan fed after (enable_edges_from (i + 1) (drop (i + 1) diagram.blocks))
+    by_control : (control : Option ℕ) → IsControlListed diagram plan fed arcs i
+        (enable_edges_from (i + 1) (drop (i + 1) diagram.blocks)) control
+        → IsPutBy diagram plan fed arcs after i control
+        → IsListing diagram plan fed after (enable_edges_from (i + 1) (drop (i + 1) diagram.blocks))
     by_control None listed put = subst (λ (as_put : List Arc). IsListing diagram plan fed as_put (enable_edges_from (i + 1) (drop (i + 1) diagram.blocks))) (sym put) (listed.none refl)
     by_control (Some source) listed put =
         subst (λ (as_put : List Arc). IsListing diagram plan fed as_put (enable_edges_from (i + 1) (drop (i + 1) diagram.blocks))) (sym put.put)
@@ -113,11 +139,15 @@ asked_there : (asks : Bool) (enable : Option ℕ) (control : ℕ) → cond asks 
 asked_there true enable control is = is
 asked_there false enable control is = absurd (none-some control is)
 
-pub control_inside : (diagram : Diagram) (place control : ℕ) (block : Block) (found : Option ℕ) → IsWired diagram → slice_get diagram.blocks place ≡ Some block → found ≡ control_ever block → found ≡ Some control → control < length diagram.blocks
+pub control_inside : (diagram : Diagram) (place control : ℕ) (block : Block) (found : Option ℕ) → IsWired diagram
+    → slice_get diagram.blocks place ≡ Some block → found ≡ control_ever block → found ≡ Some control
+    → control < length diagram.blocks
 control_inside diagram place control block found wired there is some =
     control_there diagram place control block wired there (asked_there (asks_ever (row_of block.kind).timing.asks) block.enable control (sym is ∙ some))
 
-pub put_none : (diagram : Diagram) (plan : Resolved) (fed : List Bool) (arcs : List Arc) (place : ℕ) (block : Block) (found : Option ℕ) → slice_get diagram.blocks place ≡ Some block → found ≡ control_ever block → found ≡ None → IsControlPut diagram plan fed arcs arcs place
+pub put_none : (diagram : Diagram) (plan : Resolved) (fed : List Bool) (arcs : List Arc) (place : ℕ) (block : Block)
+    (found : Option ℕ) → slice_get diagram.blocks place ≡ Some block → found ≡ control_ever block → found ≡ None
+    → IsControlPut diagram plan fed arcs arcs place
 put_none diagram plan fed arcs place block found there is none = record {
   put = λ other at.
       let same : block ≡ other = same_Some block other (sym there ∙ at) in
@@ -125,7 +155,9 @@ put_none diagram plan fed arcs place block found there is none = record {
       subst (λ (o : Option ℕ). IsPutBy diagram plan fed arcs arcs place o) control refl;
 }
 
-pub put_some : (diagram : Diagram) (plan : Resolved) (fed : List Bool) (arcs after : List Arc) (place control : ℕ) (block : Block) (found : Option ℕ) → slice_get diagram.blocks place ≡ Some block → found ≡ control_ever block → found ≡ Some control
+pub put_some : (diagram : Diagram) (plan : Resolved) (fed : List Bool) (arcs after : List Arc) (place control : ℕ)
+    (block : Block) (found : Option ℕ) → slice_get diagram.blocks place ≡ Some block → found ≡ control_ever block
+    → found ≡ Some control
     → IsArcPut diagram plan fed arcs after control place → IsControlPut diagram plan fed arcs after place
 put_some diagram plan fed arcs after place control block found there is some put = record {
   put = λ other at.

@@ -35,17 +35,24 @@ small_into : (from to : ℕ) (fed : Bool) (stages period own most : ℕ) (block 
 small_into from to fed stages period own most None few short some = omega (arith, some)
 small_into from to fed stages period own most (Some block) few short some = small_gain (is_registered block own period) fed stages period most few short some
 
-small_from : (diagram : Diagram) (plan : Resolved) (fed : List Bool) (from to most : ℕ) (period : Option ℕ) → IsPlanOf diagram plan → samples period ≤ most → 1 ≤ most → (arc_from diagram (attributes_of diagram) plan fed from to period).gain ≤ 65 * most
+small_from : (diagram : Diagram) (plan : Resolved) (fed : List Bool) (from to most : ℕ) (period : Option ℕ)
+    → IsPlanOf diagram plan → samples period ≤ most → 1 ≤ most
+    → (arc_from diagram (attributes_of diagram) plan fed from to period).gain ≤ 65 * most
 small_from diagram plan fed from to most None is short some = omega (arith, some)
 small_from diagram plan fed from to most (Some period) is short some =
-    small_into from to (is_marked fed from) (stages_at plan from) period (samples ((attributes_of diagram).period_at to)) most (slice_get diagram.blocks to) (few_stages diagram plan from is) short some
+    small_into from to (is_marked fed from) (stages_at plan from) period
+    (samples ((attributes_of diagram).period_at to)) most (slice_get diagram.blocks to)
+    (few_stages diagram plan from is) short some
 
 asked_little : (diagram : Diagram) (plan : Resolved) (fed : List Bool) (most : ℕ) → IsPlanOf diagram plan → ArePeriodsWithin diagram most → AskAtMost (latency_arcs diagram plan fed) (65 * most)
 asked_little diagram plan fed most is within = record {
-  most = λ number arc at counts. by_edge number arc (slice_get (latency_edges diagram) number) refl (sym (slice_get-map (arc_of diagram (attributes_of diagram) plan fed) (latency_edges diagram) number) ∙ at);
+  most = λ number arc at counts. by_edge number arc (slice_get (latency_edges diagram) number) refl
+      (sym (slice_get-map (arc_of diagram (attributes_of diagram) plan fed) (latency_edges diagram) number) ∙ at);
 }
   where
-    by_edge : (number : ℕ) (arc : Arc) (edge : Option LatencyEdge) → slice_get (latency_edges diagram) number ≡ edge → option_map (arc_of diagram (attributes_of diagram) plan fed) edge ≡ Some arc → arc.gain ≤ arc.slack + 65 * most
+    by_edge : (number : ℕ) (arc : Arc) (edge : Option LatencyEdge) → slice_get (latency_edges diagram) number ≡ edge
+        → option_map (arc_of diagram (attributes_of diagram) plan fed) edge ≡ Some arc
+        → arc.gain ≤ arc.slack + 65 * most
     by_edge number arc None there is_arc = absurd (none-some arc is_arc)
     by_edge number arc (Some edge) there is_arc =
         let same = same_Some (arc_of diagram (attributes_of diagram) plan fed edge) arc is_arc in
@@ -53,7 +60,9 @@ asked_little diagram plan fed most is within = record {
         let gain = ap (λ (a : Arc). a.gain) same in
         omega (arith, small, gain)
 
-pub small_latencies : LatenciesAreBounded → (diagram : Diagram) (plan : Resolved) (lat : List ℕ) (most place : ℕ) → IsPlanOf diagram plan → ArePeriodsWithin diagram most → IsLeastLatency diagram plan lat → latency_at lat place ≤ length diagram.blocks * (65 * most)
+pub small_latencies : LatenciesAreBounded → (diagram : Diagram) (plan : Resolved) (lat : List ℕ) (most place : ℕ)
+    → IsPlanOf diagram plan → ArePeriodsWithin diagram most → IsLeastLatency diagram plan lat
+    → latency_at lat place ≤ length diagram.blocks * (65 * most)
 small_latencies bounded diagram plan lat most place is within least =
     subst (λ n. latency_at lat place ≤ n * (65 * most)) least.size
     (bounded (latency_arcs diagram plan least.fed) lat (65 * most) least.least (asked_little diagram plan least.fed most is within) place)
@@ -71,9 +80,13 @@ arc_ends diagram plan fed from to (Some period) = by_block (slice_get diagram.bl
 pub unasked_zero : UnaskedAreZero → (diagram : Diagram) (plan : Resolved) (lat : List ℕ) (block : ℕ) → IsLeastLatency diagram plan lat → IsUnasked diagram block → latency_at lat block ≡ 0
 unasked_zero zero diagram plan lat block least unasked =
     zero (latency_arcs diagram plan least.fed) lat block least.least
-    (λ number arc at counts ends. by_edge number arc (slice_get (latency_edges diagram) number) refl (sym (slice_get-map (arc_of diagram (attributes_of diagram) plan least.fed) (latency_edges diagram) number) ∙ at) counts ends)
+    (λ number arc at counts ends. by_edge number arc (slice_get (latency_edges diagram) number) refl
+    (sym (slice_get-map (arc_of diagram (attributes_of diagram) plan least.fed) (latency_edges diagram) number)
+    ∙ at) counts ends)
   where
-    by_edge : (number : ℕ) (arc : Arc) (edge : Option LatencyEdge) → slice_get (latency_edges diagram) number ≡ edge → option_map (arc_of diagram (attributes_of diagram) plan least.fed) edge ≡ Some arc → arc.counts ≡ true → arc.to ≡ block → ⊥
+    by_edge : (number : ℕ) (arc : Arc) (edge : Option LatencyEdge) → slice_get (latency_edges diagram) number ≡ edge
+        → option_map (arc_of diagram (attributes_of diagram) plan least.fed) edge ≡ Some arc → arc.counts ≡ true
+        → arc.to ≡ block → ⊥
     by_edge number arc None there is_arc counts ends = none-some arc is_arc
     by_edge number arc (Some edge) there is_arc counts ends =
         let same = same_Some (arc_of diagram (attributes_of diagram) plan least.fed edge) arc is_arc in

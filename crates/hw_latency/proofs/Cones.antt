@@ -16,7 +16,9 @@ cone_self diagram attributes place = record {
   ends = refl;
 }
 
-pub cone_more : (diagram : Diagram) (attributes : Attributes) (from middle to : ℕ) → IsInCone diagram attributes from middle → LeadsNow diagram attributes middle to → IsInCone diagram attributes from to
+pub cone_more : (diagram : Diagram) (attributes : Attributes) (from middle to : ℕ)
+    → IsInCone diagram attributes from middle → LeadsNow diagram attributes middle to
+    → IsInCone diagram attributes from to
 cone_more diagram attributes from middle to cone leads =
     let within = slice_get_within cone.path cone.last middle cone.ends in
     let long : length (take (suc cone.last) cone.path) ≡ suc cone.last = length_taken cone.path (suc cone.last) (omega (arith, within)) in
@@ -52,7 +54,9 @@ cone_more diagram attributes from middle to cone leads =
     before : (k x : ℕ) → k ≤ cone.last → slice_get (take (suc cone.last) cone.path ++ to ∷ []) k ≡ Some x → slice_get cone.path k ≡ Some x
     before k x low at = ⊎_elim
         (λ (old : slice_get (take (suc cone.last) cone.path) k ≡ Some x). (get_take (suc cone.last) cone.path k x old).1)
-        (λ new. let high = new.0 in let within = slice_get_within cone.path cone.last middle cone.ends in let long = length_taken cone.path (suc cone.last) (omega (arith, within)) in absurd (omega (arith, high, long, low)))
+        (λ new. let high = new.0 in let within = slice_get_within cone.path cone.last middle cone.ends in let long =
+        length_taken cone.path (suc cone.last) (omega (arith, within)) in
+        absurd (omega (arith, high, long, low)))
         (get_cases (take (suc cone.last) cone.path) (to ∷ []) k x at)
 
 -- a block of the cone is the block itself, or lies in the cone of one that leads to it

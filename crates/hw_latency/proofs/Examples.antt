@@ -36,7 +36,9 @@ arc from to gain slack = record { from = from; to = to; counts = true; gain = ga
 
 abbrev looped : ℕ → Diagram
 looped length = record {
-  blocks = block_of (Inport 1 0) 0 1 None ∷ block_of (Sum (false ∷ false ∷ []) Internal) 2 1 None ∷ block_of (Delay length [] false) 1 1 None ∷ block_of (Gain [] Internal) 1 1 None ∷ block_of (Outport 1) 1 0 None ∷ [];
+  blocks = block_of (Inport 1 0) 0 1 None ∷ block_of (Sum (false ∷ false ∷ []) Internal) 2 1 None
+      ∷ block_of (Delay length [] false) 1 1 None ∷ block_of (Gain [] Internal) 1 1 None
+      ∷ block_of (Outport 1) 1 0 None ∷ [];
   edges = edge_of 0 1 1 ∷ edge_of 3 1 2 ∷ edge_of 1 2 1 ∷ edge_of 2 3 1 ∷ edge_of 1 4 1 ∷ [];
 }
 

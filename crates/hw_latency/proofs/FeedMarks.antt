@@ -20,26 +20,35 @@ unmarked_at zero place = refl
 unmarked_at (suc n) zero = refl
 unmarked_at (suc n) (suc place) = unmarked_at n place
 
-pub feeding_begins : (diagram : Diagram) (plan : Resolved) (order : List ℕ) (fed : List Bool) → fed ≡ replicate (length diagram.blocks) false → AreFedTo diagram (attributes_of diagram) plan order 0 fed
+pub feeding_begins : (diagram : Diagram) (plan : Resolved) (order : List ℕ) (fed : List Bool)
+    → fed ≡ replicate (length diagram.blocks) false → AreFedTo diagram (attributes_of diagram) plan order 0 fed
 feeding_begins diagram plan order fed are = rw are record {
   size = length-replicate (length diagram.blocks) false;
   sound = λ place is. absurd (false≢true (sym (unmarked_at (length diagram.blocks) place) ∙ is));
   whole = λ k place below at is. absurd (omega (arith, below));
 }
 
-pub feeding_more : (diagram : Diagram) (plan : Resolved) (order : List ℕ) (rows : List (List ℕ)) (fed : List Bool) (i place : ℕ) (mark : Bool) → AreRows diagram rows → IsOrder diagram (attributes_of diagram) order → slice_get order i ≡ Some place → place < length diagram.blocks
-    → IsMark diagram plan fed (row_at rows place) place mark → AreFedTo diagram (attributes_of diagram) plan order i fed → AreFedTo diagram (attributes_of diagram) plan order (i + 1) (slice_set fed place mark)
+pub feeding_more : (diagram : Diagram) (plan : Resolved) (order : List ℕ) (rows : List (List ℕ)) (fed : List Bool)
+    (i place : ℕ) (mark : Bool) → AreRows diagram rows → IsOrder diagram (attributes_of diagram) order
+    → slice_get order i ≡ Some place → place < length diagram.blocks
+    → IsMark diagram plan fed (row_at rows place) place mark
+    → AreFedTo diagram (attributes_of diagram) plan order i fed
+    → AreFedTo diagram (attributes_of diagram) plan order (i + 1) (slice_set fed place mark)
 feeding_more diagram plan order rows fed i place mark are ordered at there is fed_to =
     let size = fed_to.size in
     let inside : place < length fed = omega (arith, size, there) in
     record {
       size = length-set fed place mark ∙ fed_to.size;
       sound = λ other marked. ⊎_elim
-          (λ (e : place ≡ other). subst (λ b. IsFed diagram (attributes_of diagram) plan b) e (new_sound (sym (get_or-set_same fed place mark false inside) ∙ ap (λ b. get_or (slice_set fed place mark) b false) e ∙ marked)))
+          (λ (e : place ≡ other). subst (λ b. IsFed diagram (attributes_of diagram) plan b) e
+          (new_sound (sym (get_or-set_same fed place mark false inside)
+          ∙ ap (λ b. get_or (slice_set fed place mark) b false) e ∙ marked)))
           (λ (differs : place ≡ other → ⊥). fed_to.sound other (sym (get_or-set_other fed place other mark false (λ e. differs (sym e))) ∙ marked))
           (cases_eq place other);
       whole = λ k other below there_k fed_other. ⊎_elim
-          (λ (e : place ≡ other). ap (λ b. get_or (slice_set fed place mark) b false) (sym e) ∙ get_or-set_same fed place mark false inside ∙ new_whole (subst (λ b. IsFed diagram (attributes_of diagram) plan b) (sym e) fed_other))
+          (λ (e : place ≡ other). ap (λ b. get_or (slice_set fed place mark) b false) (sym e)
+          ∙ get_or-set_same fed place mark false inside
+          ∙ new_whole (subst (λ b. IsFed diagram (attributes_of diagram) plan b) (sym e) fed_other))
           (λ (differs : place ≡ other → ⊥).
           get_or-set_other fed place other mark false (λ e. differs (sym e)) ∙ fed_to.whole k other (earlier k other below there_k differs) there_k fed_other)
           (cases_eq place other);
@@ -76,7 +85,10 @@ feeding_more diagram plan order rows fed i place mark are ordered at there is fe
     new_whole : IsFed diagram (attributes_of diagram) plan place → mark ≡ true
     new_whole fed_place = ⊎_elim (λ (on : mark ≡ true). on) (λ (off : mark ≡ false). absurd (refused off fed_place)) (cases_Bool mark)
 
-pub feeding_ends : (diagram : Diagram) (plan : Resolved) (order : List ℕ) (fed : List Bool) (i : ℕ) → IsOrder diagram (attributes_of diagram) order → length order ≤ i → AreFedTo diagram (attributes_of diagram) plan order i fed → AreFed diagram (attributes_of diagram) plan fed
+pub feeding_ends : (diagram : Diagram) (plan : Resolved) (order : List ℕ) (fed : List Bool) (i : ℕ)
+    → IsOrder diagram (attributes_of diagram) order → length order ≤ i
+    → AreFedTo diagram (attributes_of diagram) plan order i fed
+    → AreFed diagram (attributes_of diagram) plan fed
 feeding_ends diagram plan order fed i ordered end fed_to = record {
   size = fed_to.size;
   sound = fed_to.sound;
@@ -89,7 +101,9 @@ feeding_ends diagram plan order fed i ordered end fed_to = record {
 
 -- ---- as the code reads it
 
-pub row_below : (diagram : Diagram) (rows : List (List ℕ)) (row : List ℕ) (marks : List Bool) (place : ℕ) → AreRows diagram rows → row ≡ row_at rows place → length marks ≡ length diagram.blocks → AreBelow row (length marks)
+pub row_below : (diagram : Diagram) (rows : List (List ℕ)) (row : List ℕ) (marks : List Bool) (place : ℕ)
+    → AreRows diagram rows → row ≡ row_at rows place → length marks ≡ length diagram.blocks
+    → AreBelow row (length marks)
 row_below diagram rows row marks place are is size = record {
   below = λ k source at.
       let low = are.known.there place source (record { place = k; at = ap (λ (r : List ℕ). slice_get r k) (sym is) ∙ at }) in
@@ -97,7 +111,9 @@ row_below diagram rows row marks place are is size = record {
       omega (arith, low, many, size);
 }
 
-pub marked_on : (diagram : Diagram) (plan : Resolved) (rows : List (List ℕ)) (row : List ℕ) (fed slice : List Bool) (place : ℕ) (mark : Bool) → AreRows diagram rows → row ≡ row_at rows place → slice ≡ fed → place < length diagram.blocks → IsMark diagram plan slice row place mark
+pub marked_on : (diagram : Diagram) (plan : Resolved) (rows : List (List ℕ)) (row : List ℕ) (fed slice : List Bool)
+    (place : ℕ) (mark : Bool) → AreRows diagram rows → row ≡ row_at rows place → slice ≡ fed
+    → place < length diagram.blocks → IsMark diagram plan slice row place mark
     → (order : List ℕ) (i : ℕ) → IsNext diagram order i place → AreFedUpTo diagram plan order i fed → AreFedUpTo diagram plan order (i + 1) (slice_set fed place mark)
 marked_on diagram plan rows row fed slice place mark are is same there mark_is order i next fed_to =
     feeding_more diagram plan order rows fed i place mark are next.ordered next.at there

@@ -12,7 +12,9 @@ use Rattle.hw_latency.specs.Cone.{AreFed, is_marked}
 use Rattle.hw_latency.specs.Weight.{samples, arc_into, arc_from, arc_of, latency_arcs}
 use Rattle.dg_model.specs.PlanOf.{stages_at}
 
-marked_by : (diagram : Diagram) (attributes : Attributes) (plan : Resolved) (fed other : List Bool) (place : ℕ) → AreFed diagram attributes plan fed → AreFed diagram attributes plan other → is_marked fed place ≡ true → is_marked other place ≡ true
+marked_by : (diagram : Diagram) (attributes : Attributes) (plan : Resolved) (fed other : List Bool) (place : ℕ)
+    → AreFed diagram attributes plan fed → AreFed diagram attributes plan other → is_marked fed place ≡ true
+    → is_marked other place ≡ true
 marked_by diagram attributes plan fed other place are too marked = ⊎_elim
     (λ (there : place < length diagram.blocks). too.whole place there (are.sound place marked))
     (λ (past : length diagram.blocks ≤ place).
@@ -20,7 +22,9 @@ marked_by diagram attributes plan fed other place are too marked = ⊎_elim
     absurd (false≢true (sym (get_or_past fed place false (omega (arith, size, past))) ∙ marked)))
     (cases_lt place (length diagram.blocks))
 
-pub one_mark : (diagram : Diagram) (attributes : Attributes) (plan : Resolved) (fed other : List Bool) (place : ℕ) → AreFed diagram attributes plan fed → AreFed diagram attributes plan other → is_marked fed place ≡ is_marked other place
+pub one_mark : (diagram : Diagram) (attributes : Attributes) (plan : Resolved) (fed other : List Bool) (place : ℕ)
+    → AreFed diagram attributes plan fed → AreFed diagram attributes plan other
+    → is_marked fed place ≡ is_marked other place
 one_mark diagram attributes plan fed other place are too = ⊎_elim
     (λ (yes : is_marked fed place ≡ true). yes ∙ sym (marked_by diagram attributes plan fed other place are too yes))
     (λ (no : is_marked fed place ≡ false). ⊎_elim
@@ -29,17 +33,24 @@ one_mark diagram attributes plan fed other place are too = ⊎_elim
     (cases_Bool (is_marked other place)))
     (cases_Bool (is_marked fed place))
 
-one_arc : (diagram : Diagram) (attributes : Attributes) (plan : Resolved) (fed other : List Bool) (from to : ℕ) → is_marked fed from ≡ is_marked other from → (period : Option ℕ) → arc_from diagram attributes plan fed from to period ≡ arc_from diagram attributes plan other from to period
+one_arc : (diagram : Diagram) (attributes : Attributes) (plan : Resolved) (fed other : List Bool) (from to : ℕ)
+    → is_marked fed from ≡ is_marked other from → (period : Option ℕ)
+    → arc_from diagram attributes plan fed from to period
+    ≡ arc_from diagram attributes plan other from to period
 one_arc diagram attributes plan fed other from to same None = refl
 one_arc diagram attributes plan fed other from to same (Some period) =
     ap (λ b. arc_into from to b (stages_at plan from) period (samples (attributes.period_at to)) (slice_get diagram.blocks to)) same
 
-one_list : (diagram : Diagram) (attributes : Attributes) (plan : Resolved) (fed other : List Bool) (edges : List LatencyEdge) → ((place : ℕ) → is_marked fed place ≡ is_marked other place) → map (arc_of diagram attributes plan fed) edges ≡ map (arc_of diagram attributes plan other) edges
+one_list : (diagram : Diagram) (attributes : Attributes) (plan : Resolved) (fed other : List Bool)
+    (edges : List LatencyEdge) → ((place : ℕ) → is_marked fed place ≡ is_marked other place)
+    → map (arc_of diagram attributes plan fed) edges ≡ map (arc_of diagram attributes plan other) edges
 one_list diagram attributes plan fed other [] same = refl
 one_list diagram attributes plan fed other (edge ∷ edges) same =
     ap (λ a. a ∷ map (arc_of diagram attributes plan fed) edges) (one_arc diagram attributes plan fed other edge.from edge.to (same edge.from) (attributes.period_at edge.from))
     ∙ ap (λ es. arc_of diagram attributes plan other edge ∷ es) (one_list diagram attributes plan fed other edges same)
 
-pub arcs_are_one : (diagram : Diagram) (plan : Resolved) (fed other : List Bool) → AreFed diagram (attributes_of diagram) plan fed → AreFed diagram (attributes_of diagram) plan other → latency_arcs diagram plan fed ≡ latency_arcs diagram plan other
+pub arcs_are_one : (diagram : Diagram) (plan : Resolved) (fed other : List Bool)
+    → AreFed diagram (attributes_of diagram) plan fed → AreFed diagram (attributes_of diagram) plan other
+    → latency_arcs diagram plan fed ≡ latency_arcs diagram plan other
 arcs_are_one diagram plan fed other are too =
     one_list diagram (attributes_of diagram) plan fed other (latency_edges diagram) (λ place. one_mark diagram (attributes_of diagram) plan fed other place are too)

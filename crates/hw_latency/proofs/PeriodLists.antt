@@ -6,7 +6,9 @@ use Rattle.dg_model.specs.declared.diagram.Diagram.{Diagram}
 use Rattle.dg_model.specs.Periods.{Period, period_at, periods_of}
 use Rattle.dg_model.proofs.Propagation.{length_periods}
 
-pub period_more : (diagram : Diagram) (list : List Period) (i : ℕ) (period : Period) → i < length diagram.blocks → period ≡ period_at (periods_of diagram) i → list ≡ take i (periods_of diagram) → list ++ period ∷ [] ≡ take (i + 1) (periods_of diagram)
+pub period_more : (diagram : Diagram) (list : List Period) (i : ℕ) (period : Period) → i < length diagram.blocks
+    → period ≡ period_at (periods_of diagram) i → list ≡ take i (periods_of diagram)
+    → list ++ period ∷ [] ≡ take (i + 1) (periods_of diagram)
 period_more diagram list i period inside is before =
     let size = length_periods diagram in
     ap (λ (ps : List Period). ps ++ period ∷ []) before ∙ ap (λ (p : Period). take i (periods_of diagram) ++ p ∷ []) is ∙ sym (take_more (periods_of diagram) i None (omega (arith, inside, size)))

@@ -1,5 +1,6 @@
 -- One use after another.
-use Rattle.std.proofs.Common.{◌≡◌, ℕ, zero, suc, ◌+◌, ◌*◌, ◌/◌, ◌<◌, ◌≤◌, ◌||◌, inl, inr, List, [], ◌∷◌, ◌++◌, take, drop, map, cond, length, All, Contains, Option, None, Some, is_some, slice_get, slice_index_or, Bool, true, false, if◌then◌else◌, ap, sym, ◌∙◌, subst, arith, refl, length-append, mul-le-mul_right}
+use Rattle.std.proofs.Common.{◌≡◌, ℕ, zero, suc, ◌+◌, ◌*◌, ◌/◌, ◌<◌, ◌≤◌, ◌||◌, inl, inr, List, [], ◌∷◌, ◌++◌, take, drop, map, cond, length, All, Contains, Option, None, Some, is_some, slice_get}
+use Rattle.std.proofs.Common.{slice_index_or, Bool, true, false, if◌then◌else◌, ap, sym, ◌∙◌, subst, arith, refl, length-append, mul-le-mul_right}
 use Rattle.std.proofs.Math.Seq.{take-suc, drop-cons}
 use Rattle.std.proofs.lemmas.Option.{none-some, same_Some, slice_get_within, slice_get-get_or, get_or_from_slice_get}
 use Rattle.std.specs.Prelude.{not}
@@ -28,7 +29,8 @@ among-more frame [] one = by (is_same_frame one frame)
     by false = refl
 among-more frame (other ∷ frames) one = by (is_same_frame other frame) (among-more frame frames one)
   where
-    by : (is : Bool) → is_among frame (frames ++ one ∷ []) ≡ (is_among frame frames || is_same_frame one frame) → (is || is_among frame (frames ++ one ∷ [])) ≡ ((is || is_among frame frames) || is_same_frame one frame)
+    by : (is : Bool) → is_among frame (frames ++ one ∷ []) ≡ (is_among frame frames || is_same_frame one frame)
+        → (is || is_among frame (frames ++ one ∷ [])) ≡ ((is || is_among frame frames) || is_same_frame one frame)
     by true rest = refl
     by false rest = rest
 
@@ -46,7 +48,9 @@ module _ (source : Source) (one : Use) where
   whole-last (x ∷ uses) e = by (is_whole source x) (whole-last uses e)
     where
       by : (whole : Bool) → parted_frames source (uses ++ one ∷ []) ≡ parted_frames source uses
-          → map (reader_of source) (cond (not whole) (x ∷ parted source (uses ++ one ∷ [])) (parted source (uses ++ one ∷ []))) ≡ map (reader_of source) (cond (not whole) (x ∷ parted source uses) (parted source uses))
+          → map (reader_of source) (cond (not whole) (x ∷ parted source (uses ++ one ∷ []))
+          (parted source (uses ++ one ∷ [])))
+          ≡ map (reader_of source) (cond (not whole) (x ∷ parted source uses) (parted source uses))
       by true rest = rest
       by false rest = ap (λ (frames : List Frame). reader_of source x ∷ frames) rest
 
@@ -55,7 +59,10 @@ module _ (source : Source) (one : Use) where
   parted-last (x ∷ uses) e = by (is_whole source x) (parted-last uses e)
     where
       by : (whole : Bool) → parted_frames source (uses ++ one ∷ []) ≡ parted_frames source uses ++ reader_of source one ∷ []
-          → map (reader_of source) (cond (not whole) (x ∷ parted source (uses ++ one ∷ [])) (parted source (uses ++ one ∷ []))) ≡ map (reader_of source) (cond (not whole) (x ∷ parted source uses) (parted source uses)) ++ reader_of source one ∷ []
+          → map (reader_of source) (cond (not whole) (x ∷ parted source (uses ++ one ∷ []))
+          (parted source (uses ++ one ∷ [])))
+          ≡ map (reader_of source) (cond (not whole) (x ∷ parted source uses) (parted source uses))
+          ++ reader_of source one ∷ []
       by true rest = rest
       by false rest = ap (λ (frames : List Frame). reader_of source x ∷ frames) rest
 
@@ -83,19 +90,28 @@ module _ (source : Source) (uses rest : List Use) (one : Use) (now new bound : �
   after-known left same = by (is_whole source one) refl
     where
       by : (whole : Bool) → is_whole source one ≡ whole → Goal
-      by true e = let left : now + different_after (parted_frames source uses) (parted_frames source rest) ≤ bound = rw (whole-here source one rest e) at left in rw (whole-last source one uses e, same) left
+      by true e = let left : now + different_after (parted_frames source uses) (parted_frames source rest) ≤ bound =
+          rw (whole-here source one rest e) at left in rw (whole-last source one uses e, same) left
       by false e =
-          let left : now + ((if is_among (reader_of source one) (parted_frames source uses) then 0 else 1) + different_after (parted_frames source uses ++ reader_of source one ∷ []) (parted_frames source rest)) ≤ bound = rw (parted-here source one rest e) at left in
+          let left : now + ((if is_among (reader_of source one) (parted_frames source uses) then 0 else 1)
+          + different_after (parted_frames source uses ++ reader_of source one ∷ [])
+          (parted_frames source rest)) ≤ bound = rw (parted-here source one rest e) at left in
           rw (parted-last source one uses e, same) (omega (arith, left))
 
   after-new : Left → is_among (reader_of source one) (map (reader_of source) uses) ≡ false → new ≤ now + (if is_whole source one then 0 else 1) → Goal
   after-new left among few = by (is_whole source one) refl few
     where
       by : (whole : Bool) → is_whole source one ≡ whole → new ≤ now + (if whole then 0 else 1) → Goal
-      by true e few = let left : now + different_after (parted_frames source uses) (parted_frames source rest) ≤ bound = rw (whole-here source one rest e) at left in rw (whole-last source one uses e) (omega (arith, left, few))
+      by true e few = let left : now + different_after (parted_frames source uses) (parted_frames source rest)
+          ≤ bound = rw (whole-here source one rest e) at left in
+          rw (whole-last source one uses e) (omega (arith, left, few))
       by false e few =
-          let left : now + ((if is_among (reader_of source one) (parted_frames source uses) then 0 else 1) + different_after (parted_frames source uses ++ reader_of source one ∷ []) (parted_frames source rest)) ≤ bound = rw (parted-here source one rest e) at left in
-          let left : now + (1 + different_after (parted_frames source uses ++ reader_of source one ∷ []) (parted_frames source rest)) ≤ bound = rw (among-parted source (reader_of source one) uses among) at left in
+          let left : now + ((if is_among (reader_of source one) (parted_frames source uses) then 0 else 1)
+          + different_after (parted_frames source uses ++ reader_of source one ∷ [])
+          (parted_frames source rest)) ≤ bound = rw (parted-here source one rest e) at left in
+          let left : now + (1 + different_after (parted_frames source uses ++ reader_of source one ∷ [])
+          (parted_frames source rest)) ≤ bound =
+          rw (among-parted source (reader_of source one) uses among) at left in
           rw (parted-last source one uses e) (omega (arith, left, few))
 
 -- ---- the end of a use
@@ -106,7 +122,9 @@ known-put : (entries : List (Frame × ℕ)) (reader other : Frame) (number : ℕ
 known-put entries reader other number true same known = ap (number_at_frame entries) (sym (same-is reader other same)) ∙ known
 known-put entries reader other number false same known = refl
 
-pub known-end : (now : Circuit) (source : Source) (taps : List ℕ) (entries : List (Frame × ℕ)) (answers answered : List ℕ) (one : Use) (number : ℕ) → number_at_frame entries (reader_of source one) ≡ Some number
+pub known-end : (now : Circuit) (source : Source) (taps : List ℕ) (entries : List (Frame × ℕ))
+    (answers answered : List ℕ) (one : Use) (number : ℕ)
+    → number_at_frame entries (reader_of source one) ≡ Some number
     → answered ≡ answers ++ number ∷ [] → PutsEnd now now source taps entries entries answers answered one
 known-end now source taps entries answers answered one number known put = record {
   number = number;
@@ -119,7 +137,9 @@ known-end now source taps entries answers answered one number known put = record
   answers_are = put;
 }
 
-pub new-end : (now new : Circuit) (source : Source) (taps : List ℕ) (known : Option ℕ) (one : Use) (number : ℕ) → known ≡ None → IsEnd now new source taps one number → Ends now new source taps one → IsEndFor now new source taps known one number
+pub new-end : (now new : Circuit) (source : Source) (taps : List ℕ) (known : Option ℕ) (one : Use) (number : ℕ)
+    → known ≡ None → IsEnd now new source taps one number → Ends now new source taps one
+    → IsEndFor now new source taps known one number
 new-end now new source taps known one number none end ends = record {
   extends = ends.extends;
   stood = λ k is. absurd (none-some k (sym none ∙ is));
@@ -172,7 +192,9 @@ module _ (before now new : Circuit) (source : Source) (uses : List Use) (bound :
   take-more : take (i + 1) frames ≡ take i frames ++ reader_of source one ∷ []
   take-more =
       let e : i + 1 ≡ suc i = omega arith in
-      ap (λ (k : ℕ). take k frames) e ∙ take-suc frames i (reader_of source one) inside ∙ ap (λ (f : Frame). take i frames ++ f ∷ []) (get_or_from_slice_get frames i (reader_of source one) (reader_of source one) frame-at)
+      ap (λ (k : ℕ). take k frames) e ∙ take-suc frames i (reader_of source one) inside
+      ∙ ap (λ (f : Frame). take i frames ++ f ∷ [])
+      (get_or_from_slice_get frames i (reader_of source one) (reader_of source one) frame-at)
 
   more-among : (frame : Frame) → is_among frame (take (i + 1) frames) ≡ (is_among frame (take i frames) || is_same_frame (reader_of source one) frame)
   more-among frame = ap (is_among frame) take-more ∙ among-more frame (take i frames) (reader_of source one)
@@ -203,7 +225,9 @@ module _ (before now new : Circuit) (source : Source) (uses : List Use) (bound :
       let e : suc i ≡ i + 1 = omega arith in
       drop-cons uses i one inside-uses ∙ (λ j. get_or_from_slice_get uses i one one at j ∷ drop (e j) uses)
 
-  few-of : (known : Option ℕ) → number_at_frame entries (reader_of source one) ≡ known → register_count new.nets + different_after (parted_frames source (take (i + 1) uses)) (parted_frames source (drop (i + 1) uses)) ≤ bound
+  few-of : (known : Option ℕ) → number_at_frame entries (reader_of source one) ≡ known
+      → register_count new.nets + different_after (parted_frames source (take (i + 1) uses))
+      (parted_frames source (drop (i + 1) uses)) ≤ bound
   few-of known e = by known e (known-among known e)
     where
       left : register_count now.nets + different_after (parted_frames source (take i uses)) (parted_frames source (one ∷ drop (i + 1) uses)) ≤ bound
@@ -215,7 +239,8 @@ module _ (before now new : Circuit) (source : Source) (uses : List Use) (bound :
           let none : is_among (reader_of source one) (map (reader_of source) (take i uses)) ≡ false = rw (take-map (reader_of source) i uses) at among in
           rw take-use (after-new source (take i uses) (drop (i + 1) uses) one (register_count now.nets) (register_count new.nets) bound left none (end.made e).1.few)
       by (Some k) e among =
-          rw take-use (after-known source (take i uses) (drop (i + 1) uses) one (register_count now.nets) (register_count new.nets) bound left (ap (λ (x : Circuit). register_count x.nets) (end.stood k e).1))
+          rw take-use (after-known source (take i uses) (drop (i + 1) uses) one (register_count now.nets)
+          (register_count new.nets) bound left (ap (λ (x : Circuit). register_count x.nets) (end.stood k e).1))
 
   grown-of : (known : Option ℕ) → number_at_frame entries (reader_of source one) ≡ known → Grows before new source.from (source.registered ≡ false) (IsCountedIn source uses)
   grown-of None e = (end.made e).1.grown before uses (among-uses uses i one at) done.taps_are done.grown
@@ -224,7 +249,8 @@ module _ (before now new : Circuit) (source : Source) (uses : List Use) (bound :
       among-uses xs k x there = (k, slice_get_within xs k x there, get_or_from_slice_get xs k x x there)
   grown-of (Some k) e = rw (end.stood k e).1 done.grown
 
-  among-of : (frame : Frame) (is : Bool) → is_same_frame (reader_of source one) frame ≡ is → is_some (if is then Some number else number_at_frame entries frame) ≡ (is_among frame (take i frames) || is)
+  among-of : (frame : Frame) (is : Bool) → is_same_frame (reader_of source one) frame ≡ is
+      → is_some (if is then Some number else number_at_frame entries frame) ≡ (is_among frame (take i frames) || is)
   among-of frame true e = sym (or-true (is_among frame (take i frames)))
     where
       or-true : (b : Bool) → (b || true) ≡ true
@@ -236,7 +262,8 @@ module _ (before now new : Circuit) (source : Source) (uses : List Use) (bound :
       or-false true = refl
       or-false false = refl
 
-  end-of : (frame : Frame) (k : ℕ) (is : Bool) → is_same_frame (reader_of source one) frame ≡ is → (if is then Some number else number_at_frame entries frame) ≡ Some k → IsAnswer before new source frame k
+  end-of : (frame : Frame) (k : ℕ) (is : Bool) → is_same_frame (reader_of source one) frame ≡ is
+      → (if is then Some number else number_at_frame entries frame) ≡ Some k → IsAnswer before new source frame k
   end-of frame k true e f =
       let same : number ≡ k = (let g : Some number ≡ Some k = f in cc) in
       subst (λ (x : Frame). IsAnswer before new source x k) (same-is (reader_of source one) frame e) (subst (IsAnswer before new source (reader_of source one)) same answer)
@@ -263,7 +290,9 @@ module _ (before now new : Circuit) (source : Source) (uses : List Use) (bound :
       same-use : {x y : Use} → Some x ≡ Some y → x ≡ y
       same-use e = cc
 
-module _ (before now : Circuit) (source : Source) (uses : List Use) (bound : ℕ) (taps : List ℕ) (entries : List (Frame × ℕ)) (answers : List ℕ) (i : ℕ) (all : i ≡ length uses) (done : IsDone before now source uses bound taps entries answers i) where
+module _ (before now : Circuit) (source : Source) (uses : List Use) (bound : ℕ) (taps : List ℕ)
+    (entries : List (Frame × ℕ)) (answers : List ℕ) (i : ℕ) (all : i ≡ length uses)
+    (done : IsDone before now source uses bound taps entries answers i) where
   pub done-answers : AreAnswers before now source uses answers
   done-answers = record { count = done.size ∙ all; each = done.are }
 

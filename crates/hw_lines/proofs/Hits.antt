@@ -105,5 +105,7 @@ module _ (n : ℕ) (line : Line) (k r : ℕ) (first : ℤ) (source wave result :
             let e-frame : t ≡ j * g * line.own.period = e ∙ ap (λ (x : ℕ). j * x) whole ∙ omega arith in
             let s : (t + line.reader.latency) * line.cycles ≡ frame_start reader j = ap (λ (x : ℕ). (x + line.reader.latency) * line.cycles) e ∙ omega arith in
             let f = end-frame t line.own.latency line.cycles line.own.period (j * g) e-frame in
-            bridge-shows n span reader phase g first source wave result k tap (omega arith) start length (subst (λ (x : ℕ). BridgeShows n reader x wave result) live-is shown) j c sees.below (omega (arith, sees.from)) (omega (arith, sees.until)) ∙ ap source (omega arith);
+            bridge-shows n span reader phase g first source wave result k tap (omega arith) start length
+            (subst (λ (x : ℕ). BridgeShows n reader x wave result) live-is shown) j c sees.below
+            (omega (arith, sees.from)) (omega (arith, sees.until)) ∙ ap source (omega arith);
       }

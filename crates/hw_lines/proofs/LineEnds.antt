@@ -1,5 +1,6 @@
 -- The end of a line is an answer for its use.
-use Rattle.std.proofs.Common.{◌≡◌, ℕ, zero, suc, Result, Ok, Err, IfOk, OnOk, ◌+◌, ◌-◌, ◌*◌, ◌/◌, ◌%◌, ◌<◌, ◌≤◌, ◌⊎◌, length, inl, inr, List, Contains, Some, slice_get, Bool, true, false, ap, sym, ◌∙◌, subst, arith, refl}
+use Rattle.std.proofs.Common.{◌≡◌, ℕ, zero, suc, Result, Ok, Err, IfOk, OnOk, ◌+◌, ◌-◌, ◌*◌, ◌/◌, ◌%◌, ◌<◌, ◌≤◌, ◌⊎◌, length, inl, inr, List, Contains, Some, slice_get, Bool, true, false, ap, sym}
+use Rattle.std.proofs.Common.{◌∙◌, subst, arith, refl}
 use Rattle.std.proofs.Math.Nat.{mul-mod_left}
 use Rattle.std.proofs.lemmas.Nat.{div-add-mod', mod_below}
 use Rattle.std.proofs.lemmas.Option.{slice_get-get_or}
@@ -81,7 +82,9 @@ module _ (source : Source) (one : Use) (some : 0 < source.frame.period) (use_is 
     plain-tap meets is same e = record {
       shows = in-rows-map before now TapShows (Shown tap) at.shows (λ n rows shown.
           subst (λ (r : Bool). ShowsLater r n (line_to before.cycles source (reader_of source one)) source.first (rows source.from) (rows tap)) (sym is)
-          (meets n (line_to before.cycles source (reader_of source one)) k source.first (rows source.from) (rows tap) (rw (whole-is) at (shifted before.cycles k 0 clocks-before (whole e))) (plain-period is ∙ same) shown));
+          (meets n (line_to before.cycles source (reader_of source one)) k source.first (rows source.from)
+          (rows tap) (rw (whole-is) at (shifted before.cycles k 0 clocks-before (whole e)))
+          (plain-period is ∙ same) shown));
       word = at.word;
       holds = λ yes. absurd (true-false yes is);
       stands = tap-stands;
@@ -97,7 +100,9 @@ module _ (source : Source) (one : Use) (some : 0 < source.frame.period) (use_is 
         record {
           shows = in-rows-map before now TapShows (Shown tap) at.shows (λ n rows shown.
               subst (λ (r : Bool). ShowsLater r n (line_to before.cycles source (reader_of source one)) source.first (rows source.from) (rows tap)) (sym is)
-              (holds n (line_to before.cycles source (reader_of source one)) k source.first (rows source.from) (rows tap) (rw whole-is at (shifted before.cycles k 0 clocks-before (whole e))) (registered-period is) behind shown));
+              (holds n (line_to before.cycles source (reader_of source one)) k source.first (rows source.from)
+              (rows tap) (rw whole-is at (shifted before.cycles k 0 clocks-before (whole e)))
+              (registered-period is) behind shown));
           word = at.word;
           holds = λ yes. elim at.stands [
             | inl itself ↦ absurd (omega (arith, itself.0, behind))
@@ -111,7 +116,9 @@ module _ (source : Source) (one : Use) (some : 0 < source.frame.period) (use_is 
         some-frames (suc k) p h = omega arith
 
     module _ (new : Circuit) (r number : ℕ) (q : Extends now new) (split : one.shift ≡ k * source.frame.period + r) where
-      pub bridge-end : BridgeMeets → source.registered ≡ false → r < source.frame.period → IsBridged now new tap (reader_of source one) (source.frame.period - r) number → IsAnswer before new source (reader_of source one) number
+      pub bridge-end : BridgeMeets → source.registered ≡ false → r < source.frame.period
+          → IsBridged now new tap (reader_of source one) (source.frame.period - r) number
+          → IsAnswer before new source (reader_of source one) number
       bridge-end meets is below bridged = record {
         shows = in-rows-both before new TapShows
             (λ n rows. IsBridge n (span_of now.cycles (reader_of source one)) ((source.frame.period - r) * now.cycles) (rows tap) (rows number))
@@ -127,7 +134,9 @@ module _ (source : Source) (one : Use) (some : 0 < source.frame.period) (use_is 
         stands = inr (omega (arith, bridged.new, longer before now p));
       }
 
-      pub phase-end : PhaseRegisterMeets → source.registered ≡ true → 1 ≤ r → r ≤ source.frame.period → (slot : ℕ) → slot ≡ r * now.cycles - 1 → IsHeld now new tap source.frame slot source.first number → IsAnswer before new source (reader_of source one) number
+      pub phase-end : PhaseRegisterMeets → source.registered ≡ true → 1 ≤ r → r ≤ source.frame.period → (slot : ℕ)
+          → slot ≡ r * now.cycles - 1 → IsHeld now new tap source.frame slot source.first number
+          → IsAnswer before new source (reader_of source one) number
       phase-end meets is low high slot at_slot held = record {
         shows = in-rows-both before new TapShows
             (λ n rows. IsReg n (span_of now.cycles source.frame) slot source.first (rows tap) (rows number))
@@ -136,7 +145,9 @@ module _ (source : Source) (one : Use) (some : 0 < source.frame.period) (use_is 
             (in-rows-last before now new (λ n rows. IsReg n (span_of now.cycles source.frame) slot source.first (rows tap) (rows number)) p held.shows)
             (λ n rows shown reg.
             subst (λ (b : Bool). ShowsLater b n (line_to before.cycles source (reader_of source one)) source.first (rows source.from) (rows number)) (sym is)
-            (meets n (line_to before.cycles source (reader_of source one)) k r source.first (rows source.from) (rows tap) (rows number) (shifted before.cycles k r clocks-before split) (registered-period is) low high shown
+            (meets n (line_to before.cycles source (reader_of source one)) k r source.first (rows source.from)
+            (rows tap) (rows number) (shifted before.cycles k r clocks-before split)
+            (registered-period is) low high shown
             (subst (λ (x : ℕ). IsReg n (span_of x source.frame) (r * x - 1) source.first (rows tap) (rows number)) p.cycles
             (subst (λ (s : ℕ). IsReg n (span_of now.cycles source.frame) s source.first (rows tap) (rows number)) at_slot reg))));
         word = word-of-word before now new source.from tap number at.word held.word;
@@ -149,12 +160,16 @@ one-more true is new now more = absurd (true-false refl is)
 one-more false is new now more = omega (arith, more)
 
 -- what was put in for one end is of the parts of a chain
-part-ends : (now new : Circuit) (source : Source) (taps : List ℕ) (one : Use) (k tap : ℕ) (frame : Frame) (bridges given : Type 0) → slice_get taps k ≡ Some tap → (bridges → source.registered ≡ false) → ((uses : List Use) → Contains uses one → IsCountedIn source uses frame)
+part-ends : (now new : Circuit) (source : Source) (taps : List ℕ) (one : Use) (k tap : ℕ) (frame : Frame)
+    (bridges given : Type 0) → slice_get taps k ≡ Some tap → (bridges → source.registered ≡ false)
+    → ((uses : List Use) → Contains uses one → IsCountedIn source uses frame)
     → is_whole source one ≡ false → Adds now new tap frame bridges given → Ends now new source taps one
 part-ends now new source taps one k tap frame bridges given there plain counted parted put = record {
   extends = put.grown.appends.extends;
   grown = λ before uses among are grown.
-      grows-trans before now new source.from tap bridges (source.registered ≡ false) (λ (other : Frame). other ≡ frame) (IsCountedIn source uses) plain (λ other same. subst (IsCountedIn source uses) (sym same) (counted uses among))
+      grows-trans before now new source.from tap bridges (source.registered ≡ false)
+      (λ (other : Frame). other ≡ frame) (IsCountedIn source uses) plain
+      (λ other same. subst (IsCountedIn source uses) (sym same) (counted uses among))
       (tap-named before now source k tap (are.each k tap there)) grown put.grown;
   few = one-more (is_whole source one) parted (register_count new.nets) (register_count now.nets) put.few;
 }
@@ -186,7 +201,9 @@ module _ (now : Circuit) (source : Source) (taps : List ℕ) (one : Use) (can : 
 
   pub plain-ends : TapMeets → source.registered ≡ false → rest ≡ 0 → one.period ≡ source.frame.period → IsEnd now now source taps one tap
   plain-ends meets plain none same = record {
-    answer = λ before are p. plain-tap source one can.some can.use_is before now can.cycles (one.shift / source.frame.period) tap p (are.each (one.shift / source.frame.period) tap there) meets plain same (no-rest none);
+    answer = λ before are p. plain-tap source one can.some can.use_is before now can.cycles
+        (one.shift / source.frame.period) tap p
+        (are.each (one.shift / source.frame.period) tap there) meets plain same (no-rest none);
   }
 
   -- a whole use has no rest, and a reader of the source's period
@@ -214,7 +231,9 @@ module _ (now : Circuit) (source : Source) (taps : List ℕ) (one : Use) (can : 
 
   pub registered-ends : TapHolds → source.registered ≡ true → rest ≡ 0 → IsEnd now now source taps one tap
   registered-ends holds registered none = record {
-    answer = λ before are p. registered-tap source one can.some can.use_is before now can.cycles (one.shift / source.frame.period) tap p (are.each (one.shift / source.frame.period) tap there) holds registered (no-rest none);
+    answer = λ before are p. registered-tap source one can.some can.use_is before now can.cycles
+        (one.shift / source.frame.period) tap p
+        (are.each (one.shift / source.frame.period) tap there) holds registered (no-rest none);
   }
 
   pub whole-ends : TapMeets → TapHolds → is_whole source one ≡ true → IsEnd now now source taps one tap
@@ -228,27 +247,43 @@ module _ (now : Circuit) (source : Source) (taps : List ℕ) (one : Use) (can : 
     abbrev IsBridgePut : ℕ → Type 0
     IsBridgePut number = Adds now new tap (reader_of source one) ⊤ (IsBridged now new tap (reader_of source one) (source.frame.period - rest) number)
 
-    pub bridge-ends : BridgeMeets → source.registered ≡ false → is_whole source one ≡ false → IfOk result IsBridgePut → IfOk result (λ number. IsEnd now new source taps one number) × OnOk result (Ends now new source taps one)
+    pub bridge-ends : BridgeMeets → source.registered ≡ false → is_whole source one ≡ false
+        → IfOk result IsBridgePut → IfOk result (λ number. IsEnd now new source taps one number)
+        × OnOk result (Ends now new source taps one)
     bridge-ends meets plain parted put =
         let below = mod_below one.shift source.frame.period can.some in (
           IfOk-weaker result IsBridgePut (λ number. IsEnd now new source taps one number) (λ number is. record {
-            answer = λ before are p. bridge-end source one can.some can.use_is before now can.cycles (one.shift / source.frame.period) tap p (are.each (one.shift / source.frame.period) tap there) new rest number is.grown.appends.extends split meets plain below is.is;
+            answer = λ before are p. bridge-end source one can.some can.use_is before now can.cycles
+                (one.shift / source.frame.period) tap p
+                (are.each (one.shift / source.frame.period) tap there) new rest number is.grown.appends.extends
+                split meets plain below is.is;
           }) put,
           on-if IsBridgePut (Ends now new source taps one) result put
-              (λ number is. part-ends now new source taps one (one.shift / source.frame.period) tap (reader_of source one) ⊤ (IsBridged now new tap (reader_of source one) (source.frame.period - rest) number) there (λ _. plain) (λ uses among. inr (plain, (one, (among, refl)))) parted is),
+              (λ number is. part-ends now new source taps one (one.shift / source.frame.period) tap
+              (reader_of source one) ⊤ (IsBridged now new tap (reader_of source one)
+              (source.frame.period - rest) number) there (λ _. plain)
+              (λ uses among. inr (plain, (one, (among, refl)))) parted is),
         )
 
     abbrev IsPhasePut : ℕ → ℕ → Type 0
     IsPhasePut slot number = Adds now new tap source.frame ⊥ (IsHeld now new tap source.frame slot source.first number)
 
-    pub phase-ends : PhaseRegisterMeets → source.registered ≡ true → is_whole source one ≡ false → (slot : ℕ) → slot ≡ rest * now.cycles - 1 → IfOk result (IsPhasePut slot) → IfOk result (λ number. IsEnd now new source taps one number) × OnOk result (Ends now new source taps one)
+    pub phase-ends : PhaseRegisterMeets → source.registered ≡ true → is_whole source one ≡ false → (slot : ℕ)
+        → slot ≡ rest * now.cycles - 1 → IfOk result (IsPhasePut slot)
+        → IfOk result (λ number. IsEnd now new source taps one number)
+        × OnOk result (Ends now new source taps one)
     phase-ends meets registered parted slot at put =
         let below = mod_below one.shift source.frame.period can.some in
         let some = parted-rest registered parted in (
           IfOk-weaker result (IsPhasePut slot) (λ number. IsEnd now new source taps one number) (λ number is. record {
-            answer = λ before are p. phase-end source one can.some can.use_is before now can.cycles (one.shift / source.frame.period) tap p (are.each (one.shift / source.frame.period) tap there) new rest number is.grown.appends.extends split meets registered
+            answer = λ before are p. phase-end source one can.some can.use_is before now can.cycles
+                (one.shift / source.frame.period) tap p
+                (are.each (one.shift / source.frame.period) tap there) new rest number is.grown.appends.extends
+                split meets registered
                 some (omega (arith, below)) slot at is.is;
           }) put,
           on-if (IsPhasePut slot) (Ends now new source taps one) result put
-              (λ number is. part-ends now new source taps one (one.shift / source.frame.period) tap source.frame ⊥ (IsHeld now new tap source.frame slot source.first number) there (λ none. absurd none) (λ uses among. inl refl) parted is),
+              (λ number is. part-ends now new source taps one (one.shift / source.frame.period) tap source.frame ⊥
+              (IsHeld now new tap source.frame slot source.first number) there (λ none. absurd none)
+              (λ uses among. inl refl) parted is),
         )

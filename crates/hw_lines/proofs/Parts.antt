@@ -1,5 +1,6 @@
 -- A register or a bridge that is put behind a net, after the Counter of its frame.
-use Rattle.std.proofs.Common.{◌≡◌, ℕ, zero, suc, Result, Ok, Err, IfOk, OnOk, ℤ, ◌+◌, ◌*◌, ◌<◌, ◌≤◌, inl, inr, [], ◌∷◌, ◌++◌, length, All, Contains, Option, None, Some, IsSome, slice_get, slice_index_or, true, false, ap, sym, ◌∙◌, subst, arith, refl}
+use Rattle.std.proofs.Common.{◌≡◌, ℕ, zero, suc, Result, Ok, Err, IfOk, OnOk, ℤ, ◌+◌, ◌*◌, ◌<◌, ◌≤◌, inl, inr, [], ◌∷◌, ◌++◌, length, All, Contains, Option, None, Some, IsSome, slice_get}
+use Rattle.std.proofs.Common.{slice_index_or, true, false, ap, sym, ◌∙◌, subst, arith, refl}
 use Rattle.std.proofs.lemmas.Bool.{cases_lt}
 use Rattle.std.proofs.lemmas.Option.{slice_get_within}
 use Rattle.std.specs.Prelude.{⊤}
@@ -123,7 +124,10 @@ module _ (a b : Circuit) (frame : Frame) (some : 0 < frame.period) (counted : Is
     pub part-shows : (P : ℕ → Rows → Type 0) → ((n : ℕ) (inputs : Inputs) (rows : Rows) → NetShows a.cycles n inputs rows source.width source.signed kind (rows number) → P n rows) → InRows a c P
     part-shows P shows =
         in-rows-last a b c P counter-grows.extends
-        (in-rows-one b c one number P at grown (λ n inputs rows is. shows n inputs rows (subst (λ (x : ℕ). NetShows x n inputs rows source.width source.signed kind (rows number)) counter-grows.extends.cycles is)))
+        (in-rows-one b c one number P at grown
+        (λ n inputs rows is. shows n inputs rows
+        (subst (λ (x : ℕ). NetShows x n inputs rows source.width source.signed kind (rows number))
+        counter-grows.extends.cycles is)))
 
 same-net : {x y : Net} → Some x ≡ Some y → x ≡ y
 same-net e = cc
@@ -140,7 +144,8 @@ one-all P from p k d within =
 none-all : (P : ℕ → Type 0) → All P []
 none-all P k d within = absurd (omega arith)
 
-module _ (a b : Circuit) (frame : Frame) (some : 0 < frame.period) (counted : IsCounted a b frame) (found : (number : ℕ) × (counter_of b.nets frame ≡ Some number)) (c : Circuit) (from : ℕ) (source : Net)
+module _ (a b : Circuit) (frame : Frame) (some : 0 < frame.period) (counted : IsCounted a b frame)
+    (found : (number : ℕ) × (counter_of b.nets frame ≡ Some number)) (c : Circuit) (from : ℕ) (source : Net)
     (there : slice_get a.nets from ≡ Some source) (word : IsWord source.width source.signed) where
   has : IsSome (counter_of b.nets frame)
   has = rw found.1 refl
@@ -152,7 +157,9 @@ module _ (a b : Circuit) (frame : Frame) (some : 0 < frame.period) (counted : Is
       let kind : NetKind = Reg frame slot first from in
       record {
         is = record {
-          shows = part-shows a b frame some counted c from number source kind there word at has grown (λ n rows. IsReg n (span_of a.cycles frame) slot first (rows from) (rows number)) (λ n inputs rows is. is);
+          shows = part-shows a b frame some counted c from number source kind there word at has grown
+              (λ n rows. IsReg n (span_of a.cycles frame) slot first (rows from) (rows number))
+              (λ n inputs rows is. is);
           word = part-word a b frame some counted c from number source kind there word at has grown;
           new = record {
             frame = frame;
@@ -177,7 +184,9 @@ module _ (a b : Circuit) (frame : Frame) (some : 0 < frame.period) (counted : Is
       let kind : NetKind = Bridge frame live from in
       record {
         is = record {
-          shows = part-shows a b frame some counted c from number source kind there word at has grown (λ n rows. IsBridge n (span_of a.cycles frame) (live * a.cycles) (rows from) (rows number)) (λ n inputs rows is. is);
+          shows = part-shows a b frame some counted c from number source kind there word at has grown
+              (λ n rows. IsBridge n (span_of a.cycles frame) (live * a.cycles) (rows from) (rows number))
+              (λ n inputs rows is. is);
           word = part-word a b frame some counted c from number source kind there word at has grown;
           new = part-new a b frame some counted c from number source kind there word at has grown;
         };

@@ -117,7 +117,8 @@ tap-named a b source k number tap read named =
     one-of x y (zero, within, is) = sym is
     one-of x y (suc k, within, is) = absurd (omega (arith, within))
 
-part-wider : (bridges more : Type 0) (frames others : Frame → Type 0) (kind : NetKind) → (bridges → more) → ((frame : Frame) → frames frame → others frame) → IsPart bridges frames kind → IsPart more others kind
+part-wider : (bridges more : Type 0) (frames others : Frame → Type 0) (kind : NetKind) → (bridges → more)
+    → ((frame : Frame) → frames frame → others frame) → IsPart bridges frames kind → IsPart more others kind
 part-wider bridges more frames others (Comb op args) f g is = is
 part-wider bridges more frames others (Reg frame slot first from) f g is = is
 part-wider bridges more frames others (EnReg frame enable reset first from) f g is = is
@@ -136,7 +137,9 @@ grows-trans a b c from last bridges more frames others f g named p q = record {
       ];
 }
 
-pub grows-wider : (a b : Circuit) (from : ℕ) (bridges more : Type 0) (frames others : Frame → Type 0) → (bridges → more) → ((frame : Frame) → frames frame → others frame) → Grows a b from bridges frames → Grows a b from more others
+pub grows-wider : (a b : Circuit) (from : ℕ) (bridges more : Type 0) (frames others : Frame → Type 0)
+    → (bridges → more) → ((frame : Frame) → frames frame → others frame) → Grows a b from bridges frames
+    → Grows a b from more others
 grows-wider a b from bridges more frames others f g p = record {
   appends = p.appends;
   parts = λ k net past there. part-wider bridges more frames others net.kind f g (p.parts k net past there);

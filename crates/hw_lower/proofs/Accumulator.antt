@@ -27,8 +27,12 @@ value_drop (v ∷ inputs) zero d inside = refl
 value_drop (v ∷ inputs) (suc i) d inside = value_drop inputs i d (omega arith)
 
 -- one input more
-pub goes_more : (operation : Operation) (accum : FxType) (inputs : List ℤ) (i : ℕ) (total after : ℤ) → i < length operation.types → length operation.signs ≡ length operation.types → length inputs ≡ length operation.types
-    → GoesOn operation accum inputs i total → IsStep operation accum (get_or operation.signs i false, type_of operation.types i) (value_of inputs i) total after → GoesOn operation accum inputs (i + 1) after
+pub goes_more : (operation : Operation) (accum : FxType) (inputs : List ℤ) (i : ℕ) (total after : ℤ)
+    → i < length operation.types → length operation.signs ≡ length operation.types
+    → length inputs ≡ length operation.types
+    → GoesOn operation accum inputs i total
+    → IsStep operation accum (get_or operation.signs i false, type_of operation.types i)
+    (value_of inputs i) total after → GoesOn operation accum inputs (i + 1) after
 goes_more operation accum inputs i total after inside same count before step last h =
     let terms = zip operation.signs operation.types in
     let number : i + 1 ≡ suc i = omega arith in

@@ -1,5 +1,6 @@
 -- What a plan gives of its arguments.
-use Rattle.std.proofs.Common.{◌≡◌, ℕ, ◌+◌, ◌<◌, ◌≤◌, inl, inr, Bool, true, false, List, [], ◌∷◌, ◌++◌, length, slice_get, None, Option, Some, ℤ, pos, negsuc, ◌+ℤ◌, ◌≤ℤ◌, to_z, of_z, FitsSigned, All, sym, ap, ◌∙◌, subst, arith, refl}
+use Rattle.std.proofs.Common.{◌≡◌, ℕ, ◌+◌, ◌<◌, ◌≤◌, inl, inr, Bool, true, false, List, [], ◌∷◌, ◌++◌, length, slice_get, None, Option, Some, ℤ, pos, negsuc, ◌+ℤ◌, ◌≤ℤ◌, to_z, of_z, FitsSigned, All}
+use Rattle.std.proofs.Common.{sym, ap, ◌∙◌, subst, arith, refl}
 use Rattle.std.specs.Prelude.{MatchBool}
 use Rattle.std.specs.Int.{w16}
 use Rattle.std.proofs.lemmas.Int.{ints}
@@ -37,7 +38,9 @@ match-switched : (b : Bool) (A B : ℤ → Type 0) (first other r : ℤ) → A f
 match-switched true A B first other r p q is = subst A (sym (is.holds refl)) p
 match-switched false A B first other r p q is = subst B (sym (is.fails refl)) q
 
-pub switch-is : (operation : Operation) (test : ℤ → Bool) (a b : FxType) (x y z u v w first other r : ℤ) → x ≡ u → y ≡ v → z ≡ w → IsConverted operation x a first → IsConverted operation z b other → IsSwitched (test y) first other r
+pub switch-is : (operation : Operation) (test : ℤ → Bool) (a b : FxType) (x y z u v w first other r : ℤ) → x ≡ u
+    → y ≡ v → z ≡ w → IsConverted operation x a first → IsConverted operation z b other
+    → IsSwitched (test y) first other r
     → MatchBool (test v) (IsConverted operation u a r) (IsConverted operation w b r)
 switch-is operation test a b x y z u v w first other r e f g p q is =
     match-switched (test v) (IsConverted operation u a) (IsConverted operation w b) first other r
@@ -117,7 +120,8 @@ input-more old new types k are is = record {
       ];
 }
 
-pub inputs-more : (old new : Plan) (types : List FxType) (k : ℕ) (made : Operand) → BeginsWith old types k → IsPut old new (step_of (Input k) 0 0 0 (word_of (type_of types k))) made → BeginsWith new types (k + 1)
+pub inputs-more : (old new : Plan) (types : List FxType) (k : ℕ) (made : Operand) → BeginsWith old types k
+    → IsPut old new (step_of (Input k) 0 0 0 (word_of (type_of types k))) made → BeginsWith new types (k + 1)
 inputs-more old new types k made begins put = record {
   are = λ enough. let p = put.put enough in input-more old.steps new.steps types k (begins.are p.0) p.1.is;
 }
@@ -128,14 +132,18 @@ pub plan-typed : {old new : Plan} {made : Operand} (operation : Operation) (op :
     → PlansOp old new operation operation.op made
 plan-typed {old} {new} {made} operation op type e f is =
     plan-of operation op e
-    (subst (λ (t : FxType). IsPlanned old new (multiply_of op) (word_of t) (λ numbers. OfArguments operation.types numbers (λ values. Gives op operation operation.types values (numbers made.place))) made) (sym f) is)
+    (subst (λ (t : FxType). IsPlanned old new (multiply_of op) (word_of t)
+    (λ numbers. OfArguments operation.types numbers
+    (λ values. Gives op operation operation.types values (numbers made.place))) made) (sym f) is)
 
 -- what an operation gives of its arguments is the number of a step
 abbrev pub GivenBy : Operation → Op → Operand → Numbers → Type 0
 GivenBy operation op made numbers = OfArguments operation.types numbers (λ values. Gives op operation operation.types values (numbers made.place))
 
 -- the same of a plan with no Multiply
-pub plan-plain : {old new : Plan} {made : Operand} (operation : Operation) (op : Op) (type : FxType) → operation.op ≡ op → operation.result ≡ type → multiply_of op ≡ None → IsMade old new (word_of type) (GivenBy operation op made) made
+pub plan-plain : {old new : Plan} {made : Operand} (operation : Operation) (op : Op) (type : FxType)
+    → operation.op ≡ op → operation.result ≡ type → multiply_of op ≡ None
+    → IsMade old new (word_of type) (GivenBy operation op made) made
     → PlansOp old new operation operation.op made
 plan-plain {old} {new} {made} operation op type e f none is =
     plan-typed operation op type e f

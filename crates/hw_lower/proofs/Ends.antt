@@ -86,7 +86,9 @@ pub least-far : (width : ℕ) (signed : Bool) (up : ℕ) → IsWord width signed
 least-far width signed up word past = none-low (word_lowest width signed) (2 ^ up) (lowest-below width signed) (lowest-large width signed up word past)
 
 -- both ends held
-pub both-held : (word : Word) (frac exact value below made : ℤ) → IsWord word.width word.signed → IsWrapped exact word.width word.signed value → IsHeldBelow word exact value below → IsHeldAbove word exact below made
+pub both-held : (word : Word) (frac exact value below made : ℤ) → IsWord word.width word.signed
+    → IsWrapped exact word.width word.signed value → IsHeldBelow word exact value below
+    → IsHeldAbove word exact below made
     → Saturates (Num word.signed word.width frac) exact made
 both-held word frac exact value below made valid wrapped high low =
     let ends : word_lowest word.width word.signed ≤ℤ word_highest word.width word.signed = omega (arith, ints, lowest-below word.width word.signed, highest-least word.width word.signed) in
@@ -108,16 +110,30 @@ falls exact low v bound f h = by_lt_z v bound (λ less. less) (λ more. absurd (
 chosen-end : (test end most value made : ℤ) → IsChosen test most value made → most ≡ end → test ≡ pos 1 → made ≡ end
 chosen-end test end most value made chosen is one = chosen.any (λ e. absurd (omega (arith, ints, e, one))) ∙ is
 
-pub held-below : (word : Word) (exact v bound end most test value made : ℤ) → (exact ≤ℤ word_highest word.width word.signed) ↔ (v ≤ℤ bound) → end ≡ bound → most ≡ word_highest word.width word.signed → IsWrapped (truth (int_lt end v)) 1 false test
+pub held-below : (word : Word) (exact v bound end most test value made : ℤ)
+    → (exact ≤ℤ word_highest word.width word.signed) ↔ (v ≤ℤ bound) → end ≡ bound
+    → most ≡ word_highest word.width word.signed → IsWrapped (truth (int_lt end v)) 1 false test
     → IsChosen test most value made → IsHeldBelow word exact value made
 held-below word exact v bound end most test value made ends is most_is less chosen =
     let high : ℤ = word_highest word.width word.signed in
     let tells = less-is end v test less in
-    record { within = λ h. chosen.zero (tells.1 (omega (arith, ints, ends.0 h, is))); above = λ h. chosen-end test high most value made chosen most_is (tells.0 (omega (arith, ints, passes exact high v bound ends.1 h, is))) }
+    record {
+      within = λ h. chosen.zero (tells.1 (omega (arith, ints, ends.0 h, is)));
+      above =
+          λ h. chosen-end test high most value made chosen most_is
+          (tells.0 (omega (arith, ints, passes exact high v bound ends.1 h, is)));
+    }
 
-pub held-above : (word : Word) (exact v bound end least test value made : ℤ) → (word_lowest word.width word.signed ≤ℤ exact) ↔ (bound ≤ℤ v) → end ≡ bound → least ≡ word_lowest word.width word.signed → IsWrapped (truth (int_lt v end)) 1 false test
+pub held-above : (word : Word) (exact v bound end least test value made : ℤ)
+    → (word_lowest word.width word.signed ≤ℤ exact) ↔ (bound ≤ℤ v) → end ≡ bound
+    → least ≡ word_lowest word.width word.signed → IsWrapped (truth (int_lt v end)) 1 false test
     → IsChosen test least value made → IsHeldAbove word exact value made
 held-above word exact v bound end least test value made ends is least_is less chosen =
     let low : ℤ = word_lowest word.width word.signed in
     let tells = less-is v end test less in
-    record { within = λ h. chosen.zero (tells.1 (omega (arith, ints, ends.0 h, is))); below = λ h. chosen-end test low least value made chosen least_is (tells.0 (omega (arith, ints, falls exact low v bound ends.1 h, is))) }
+    record {
+      within = λ h. chosen.zero (tells.1 (omega (arith, ints, ends.0 h, is)));
+      below =
+          λ h. chosen-end test low least value made chosen least_is
+          (tells.0 (omega (arith, ints, falls exact low v bound ends.1 h, is)));
+    }

@@ -1,5 +1,6 @@
 -- Gates, one argument after another.
-use Rattle.std.proofs.Common.{◌≡◌, ◌≢◌, ℕ, ◌+◌, ◌<◌, ◌≤◌, ◌%◌, Bool, true, false, not, ◌&&◌, ◌||◌, true≢false, if◌then◌else◌, List, length, take, ℤ, pos, ◌-ℤ◌, ap, sym, ◌∙◌, subst, arith, refl, inl, inr}
+use Rattle.std.proofs.Common.{◌≡◌, ◌≢◌, ℕ, ◌+◌, ◌<◌, ◌≤◌, ◌%◌, Bool, true, false, not, ◌&&◌, ◌||◌, true≢false, if◌then◌else◌, List, length, take, ℤ, pos, ◌-ℤ◌, ap, sym, ◌∙◌, subst, arith, refl, inl}
+use Rattle.std.proofs.Common.{inr}
 use Rattle.std.specs.Prelude.{count_by, ◌==◌}
 use Rattle.std.specs.Ordering.{int_eq}
 use Rattle.std.proofs.lemmas.Int.{ints}
@@ -119,7 +120,9 @@ joined-bit Every b test bit r e is = all-chosen b test bit r e is
 joined-bit Any b test bit r e is = some-chosen b test bit r e is
 joined-bit Odd b test bit r e is = odd-chosen b test bit r e is
 
-more-truth : (joining : Joining) (values : List ℤ) (k : ℕ) → k < length values → truth_of joining (take (k + 1) values) ≡ one-more joining (truth_of joining (take k values)) (is_true (value_of values k))
+more-truth : (joining : Joining) (values : List ℤ) (k : ℕ) → k < length values
+    → truth_of joining (take (k + 1) values)
+    ≡ one-more joining (truth_of joining (take k values)) (is_true (value_of values k))
 more-truth Every values k within = list_all_more is_true values k (pos 0) within
 more-truth Any values k within = list_any_more is_true values k (pos 0) within
 more-truth Odd values k within = odd-more values k within

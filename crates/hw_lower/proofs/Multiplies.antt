@@ -66,7 +66,13 @@ spreads-after a b c p size q = record {
       record { step = at.step; is = ap (slice_get c) (sym same) ∙ at.is; multiplies = at.multiplies };
   only = λ place at.
       elim (cases_lt (length a + place) (length b)) [
-        | inl less ↦ absurd (plain-none a b (length a + place) p (omega arith) (record { step = at.step; is = stood-at b q.adds.added c (length a + place) at.step q.adds.is less at.is; multiplies = at.multiplies }))
+        | inl less ↦ absurd (plain-none a b (length a + place) p (omega arith)
+            (record {
+              step = at.step;
+              is = stood-at b q.adds.added c
+                  (length a + place) at.step q.adds.is less at.is;
+              multiplies = at.multiplies;
+            }))
         | inr more ↦
             let same : length a + place ≡ length b + (place - 1) = omega arith in
             let none : 0 ≡ place - 1 = same_Some 0 (place - 1) (q.only (place - 1) (subst (IsMultiplyAt c) same at)) in

@@ -1,5 +1,6 @@
 -- The nets of a plan, one after another.
-use Rattle.std.proofs.Common.{◌≡◌, ℕ, zero, suc, ◌+◌, ◌-◌, ◌<◌, ◌≤◌, ◌⊎◌, inl, inr, false, List, [], ◌∷◌, ◌++◌, take, map, length, All, Contains, slice_get, slice_index_or, Some, ap, sym, ◌∙◌, subst, arith, refl, length-append}
+use Rattle.std.proofs.Common.{◌≡◌, ℕ, zero, suc, ◌+◌, ◌-◌, ◌<◌, ◌≤◌, ◌⊎◌, inl, inr, false, List, [], ◌∷◌, ◌++◌, take, map, length, All, Contains, slice_get, slice_index_or, Some, ap, sym, ◌∙◌, subst}
+use Rattle.std.proofs.Common.{arith, refl, length-append}
 use Rattle.std.proofs.lemmas.Bool.{cases_lt}
 use Rattle.std.proofs.lemmas.List.{length-map}
 use Rattle.std.proofs.lemmas.List.Elements.{All-map, Contains-get_or}
@@ -157,7 +158,9 @@ parts-there steps nets inputs place (Slice high low) f a b c inner has earlier w
     omega (arith, below, wide))
 
 -- a net reads what its step reads
-pub net-same : (args : List ℕ) (base place : ℕ) (numbers : List ℕ) (step : Step) → AreNumbers args base place numbers → All (λ read. read < place) (reads_of step) → net_by numbers step ≡ net_of args base step
+pub net-same : (args : List ℕ) (base place : ℕ) (numbers : List ℕ) (step : Step)
+    → AreNumbers args base place numbers → All (λ read. read < place) (reads_of step)
+    → net_by numbers step ≡ net_of args base step
 net-same args base place numbers step are earlier =
     ap (λ (xs : List ℕ). record { signed = step.word.signed; width = step.word.width; kind = Comb step.op xs }) (by (reads_of step) earlier)
   where
@@ -169,7 +172,9 @@ net-same args base place numbers step are earlier =
         cc
 
 -- the numbers of one step more
-pub numbers-more : (args : List ℕ) (base place number : ℕ) (numbers : List ℕ) → AreNumbers args base place numbers → length args ≤ place → number + length args ≡ base + place → AreNumbers args base (place + 1) (numbers ++ number ∷ [])
+pub numbers-more : (args : List ℕ) (base place number : ℕ) (numbers : List ℕ) → AreNumbers args base place numbers
+    → length args ≤ place → number + length args ≡ base + place
+    → AreNumbers args base (place + 1) (numbers ++ number ∷ [])
 numbers-more args base place number numbers are past is = record {
   size = length-append numbers (number ∷ []) ∙ omega (arith, are.size);
   each = λ read inside.
@@ -195,7 +200,8 @@ nets-begun before args steps = record {
 }
 
 -- one net more
-module _ (before now new : Circuit) (steps : List Step) (args : List ℕ) (place : ℕ) (step : Step) (can : CanPut before steps args) (past : length args ≤ place) (there : slice_get steps place ≡ Some step)
+module _ (before now new : Circuit) (steps : List Step) (args : List ℕ) (place : ℕ) (step : Step)
+    (can : CanPut before steps args) (past : length args ≤ place) (there : slice_get steps place ≡ Some step)
     (are : AreNets before now args steps place) (grown : new ≡ with_net now (net_of args (length before.nets) step)) where
   inside : place ≤ length steps
   inside = omega (arith, slice_get_within steps place step there)
@@ -207,14 +213,18 @@ module _ (before now new : Circuit) (steps : List Step) (args : List ℕ) (place
   sound = can.sound place step past there
 
   words : HaveWords steps new.nets (number_of args (length before.nets)) place
-  words read other earlier at = word-stays now new (number_of args (length before.nets) read) other.word.width other.word.signed grows (word-at before now steps args place can are read other earlier at)
+  words read other earlier at = word-stays now new
+      (number_of args (length before.nets) read) other.word.width other.word.signed grows
+      (word-at before now steps args place can are read other earlier at)
 
   appended : IsAppended now new (map (number_of args (length before.nets)) (reads_of step)) (length now.nets) (net_of args (length before.nets) step)
   appended = record {
     word = sound.word;
     kind = (
       arity-length step.op (number_of args (length before.nets)) step.first step.second step.third,
-      parts-there steps new.nets (length new.inputs) place step.op (number_of args (length before.nets)) step.first step.second step.third (can.inner place step past there) sound.parts sound.before words step inside,
+      parts-there steps new.nets (length new.inputs) place step.op
+          (number_of args (length before.nets)) step.first step.second step.third
+          (can.inner place step past there) sound.parts sound.before words step inside,
     );
     there = All-map (λ (read : ℕ). read < length new.nets) (number_of args (length before.nets)) (reads_of step)
         (λ k d within.
@@ -232,14 +242,18 @@ module _ (before now new : Circuit) (steps : List Step) (args : List ℕ) (place
   wider read has =
       let size : length (map (number_of args (length before.nets)) (reads_of step)) ≡ length (reads_of step) = length-map (reads_of step) (number_of args (length before.nets)) in
       let named : All (IsNamed before now args) (map (number_of args (length before.nets)) (reads_of step)) =
-      All-map (IsNamed before now args) (number_of args (length before.nets)) (reads_of step) (λ k d within. number-named before now steps args place can are (slice_index_or (reads_of step) k d) (sound.before k d within)) in
+      All-map (IsNamed before now args) (number_of args (length before.nets)) (reads_of step)
+      (λ k d within. number-named before now steps args place can are (slice_index_or (reads_of step) k d)
+      (sound.before k d within)) in
       subst (IsNamed before now args) has.2 (named has.0 read has.1)
 
   pub nets-more : AreNets before new args steps (place + 1)
   nets-more = record {
     size = omega (arith, one-longer now new (net_of args (length before.nets) step) grown, are.size);
     appends = appends-trans before now new args (map (number_of args (length before.nets)) (reads_of step)) wider are.appends
-        (appends-one now new (net_of args (length before.nets) step) (map (number_of args (length before.nets)) (reads_of step)) grown appended (differ-other now.nets (net_of args (length before.nets) step) refl));
+        (appends-one now new (net_of args (length before.nets) step)
+        (map (number_of args (length before.nets)) (reads_of step)) grown appended
+        (differ-other now.nets (net_of args (length before.nets) step) refl));
     each = λ k other within at.
         elim (cases_lt (length args + k) place) [
           | inl less ↦ still-there now new (length before.nets + k) (net_of args (length before.nets) other) grows (are.each k other less at)

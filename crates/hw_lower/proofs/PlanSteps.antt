@@ -1,5 +1,6 @@
 -- A plan that grows by one step, and what its numbers are then.
-use Rattle.std.proofs.Common.{◌≡◌, inl, inr, ℕ, zero, suc, ◌+◌, ◌<◌, ◌≤◌, ℤ, List, [], ◌∷◌, ◌++◌, take, length, All, slice_get, Some, ap, sym, ◌∙◌, subst, arith, refl, length-append, append_assoc, append-nil, false}
+use Rattle.std.proofs.Common.{◌≡◌, inl, inr, ℕ, zero, suc, ◌+◌, ◌<◌, ◌≤◌, ℤ, List, [], ◌∷◌, ◌++◌, take, length, All, slice_get, Some, ap, sym, ◌∙◌, subst, arith, refl, length-append, append_assoc}
+use Rattle.std.proofs.Common.{append-nil, false}
 use Rattle.std.proofs.lemmas.Bool.{cases_lt}
 use Rattle.std.proofs.lemmas.Option.{same_Some, slice_get_within}
 use Rattle.math_num.specs.Word.{IsWord, InWord, IsWrapped}
@@ -74,14 +75,18 @@ sound-later old added new k step is inside sound = record {
 }
 
 -- what is so of each step behind one plan and, in a third, of each behind a second is so of all behind the first
-pub each-trans : (a b added c : List Step) (P Q : ℕ → Step → Type 0) → c ≡ b ++ added → ((k : ℕ) (step : Step) → k < length b → P k step → Q k step) → ((k : ℕ) (step : Step) → length a ≤ k → slice_get b k ≡ Some step → P k step)
+pub each-trans : (a b added c : List Step) (P Q : ℕ → Step → Type 0) → c ≡ b ++ added
+    → ((k : ℕ) (step : Step) → k < length b → P k step → Q k step)
+    → ((k : ℕ) (step : Step) → length a ≤ k → slice_get b k ≡ Some step → P k step)
     → ((k : ℕ) (step : Step) → length b ≤ k → slice_get c k ≡ Some step → Q k step) → (k : ℕ) (step : Step) → length a ≤ k → slice_get c k ≡ Some step → Q k step
 each-trans a b added c P Q is keeps before behind k step past there = elim (cases_lt k (length b)) [
   | inl less ↦ keeps k step less (before k step past (stood-at b added c k step is less there))
   | inr more ↦ behind k step more there
 ]
 
-pub sound-trans : (a b added c : List Step) → c ≡ b ++ added → ((k : ℕ) (step : Step) → length a ≤ k → slice_get b k ≡ Some step → IsSound b k step) → ((k : ℕ) (step : Step) → length b ≤ k → slice_get c k ≡ Some step → IsSound c k step)
+pub sound-trans : (a b added c : List Step) → c ≡ b ++ added
+    → ((k : ℕ) (step : Step) → length a ≤ k → slice_get b k ≡ Some step → IsSound b k step)
+    → ((k : ℕ) (step : Step) → length b ≤ k → slice_get c k ≡ Some step → IsSound c k step)
     → (k : ℕ) (step : Step) → length a ≤ k → slice_get c k ≡ Some step → IsSound c k step
 sound-trans a b added c is = each-trans a b added c (IsSound b) (IsSound c) is (λ k step less sound. sound-later b added c k step is less sound)
 
@@ -114,7 +119,8 @@ last-is old new step other k is past there =
     let found : slice_get new k ≡ Some step = ap (λ (xs : List Step). slice_get xs k) is ∙ ap (slice_get (old ++ step ∷ [])) last ∙ last_at old step in
     (last, same_Some step other (sym found ∙ there))
 
-pub sound-one : (old new : List Step) (step : Step) → new ≡ old ++ step ∷ [] → IsSound new (length old) step → (k : ℕ) (other : Step) → length old ≤ k → slice_get new k ≡ Some other → IsSound new k other
+pub sound-one : (old new : List Step) (step : Step) → new ≡ old ++ step ∷ [] → IsSound new (length old) step
+    → (k : ℕ) (other : Step) → length old ≤ k → slice_get new k ≡ Some other → IsSound new k other
 sound-one old new step is sound k other past there =
     let last = last-is old new step other k is past there in
     subst (λ (i : ℕ). IsSound new i other) (sym last.0) (subst (λ (s : Step). IsSound new (length old) s) last.1 sound)
@@ -216,7 +222,9 @@ operation-made old new op first second third made word plain can one other last 
     let x = one.there enough in
     let y = other.there enough in
     let z = last.there enough in
-    let reads = below-taken (arity op) first.place second.place third.place (length old.steps) (slice_get_within old.steps first.place x.step x.is) (slice_get_within old.steps second.place y.step y.is) (slice_get_within old.steps third.place z.step z.is) in
+    let reads = below-taken (arity op) first.place second.place third.place (length old.steps)
+    (slice_get_within old.steps first.place x.step x.is) (slice_get_within old.steps second.place y.step y.is)
+    (slice_get_within old.steps third.place z.step z.is) in
     record {
       word = valid;
       before = reads;
@@ -225,7 +233,8 @@ operation-made old new op first second third made word plain can one other last 
     plain (λ inputs numbers is. rw (plain-given op inputs (three numbers first second third) plain) at is)
 
 -- the number of a word that is congruent to one of the word is that one
-pub constant-made : (old new : Plan) (value : ℤ) (word : Word) (made : Operand) → IsWord word.width word.signed → InWord word.width word.signed value → IsPut old new (step_of (Const value) 0 0 0 word) made
+pub constant-made : (old new : Plan) (value : ℤ) (word : Word) (made : Operand) → IsWord word.width word.signed
+    → InWord word.width word.signed value → IsPut old new (step_of (Const value) 0 0 0 word) made
     → IsMade old new word (λ numbers. numbers made.place ≡ value) made
 constant-made old new value word made valid has put =
     put-made old new (step_of (Const value) 0 0 0 word) made _ put valid

@@ -1,5 +1,6 @@
 -- What the nets of a plan show.
-use Rattle.std.proofs.Common.{◌≡◌, ℕ, zero, suc, ◌+◌, ◌-◌, ◌^◌, ◌<◌, ◌≤◌, ◌⊎◌, inl, inr, Contains, false, List, [], ◌∷◌, take, map, length, slice_get, slice_index_or, Option, Some, ℤ, pos, ap, sym, ◌∙◌, subst, arith, refl, length-append}
+use Rattle.std.proofs.Common.{◌≡◌, ℕ, zero, suc, ◌+◌, ◌-◌, ◌^◌, ◌<◌, ◌≤◌, ◌⊎◌, inl, inr, Contains, false, List, [], ◌∷◌, take, map, length, slice_get, slice_index_or, Option, Some, ℤ, pos, ap, sym}
+use Rattle.std.proofs.Common.{◌∙◌, subst, arith, refl, length-append}
 use Rattle.std.proofs.lemmas.Bool.{cases_lt}
 use Rattle.std.proofs.lemmas.Option.{none-some, same_Some, slice_get_within, slice_get-get_or}
 use Rattle.math_num.specs.Word.{IsWrapped}
@@ -62,7 +63,9 @@ input-at types start steps multiply inputs spreads k step inside there =
     same_Some (step_of (Input k) 0 0 0 (word_of (type_of types k))) step
     (sym (inputs.each k inside) ∙ stood-at start spreads.adds.added steps k step spreads.adds.is (omega (arith, inputs.size, inside)) there)
 
-pub can-put : (before : Circuit) (types : List FxType) (args : List ℕ) (start steps : List Step) (multiply : Option ℕ) → AreArgs before types args → AreInputs start types (length types) → Spreads start steps multiply
+pub can-put : (before : Circuit) (types : List FxType) (args : List ℕ) (start steps : List Step)
+    (multiply : Option ℕ) → AreArgs before types args → AreInputs start types (length types)
+    → Spreads start steps multiply
     → CanPut before steps args
 can-put before types args start steps multiply are_args inputs spreads = record {
   count = omega (arith, are_args.count, inputs.size, ap length spreads.adds.is, length-append start spreads.adds.added);
@@ -82,7 +85,9 @@ numbers_of args base rows clock place = rows (number_of args base place) clock
 -- a net behind the arguments shows in a later netlist what its step gives
 shown : (before after later : Circuit) (args : List ℕ) (steps : List Step) → AreNets before after args steps (length steps) → Keeps before after later
     → (n : ℕ) (given : Inputs) (rows : Rows) → NetRows later n given rows → (clock : ℕ) → clock < n → (k : ℕ) (step : Step) → slice_get steps (length args + k) ≡ Some step → IsInner step.op
-    → IsWrapped (given_by step.op (numbers_of args (length before.nets) rows clock) (operands_of (numbers_of args (length before.nets) rows clock) step)) step.word.width step.word.signed (numbers_of args (length before.nets) rows clock (length args + k))
+    → IsWrapped (given_by step.op (numbers_of args (length before.nets) rows clock)
+    (operands_of (numbers_of args (length before.nets) rows clock) step)) step.word.width step.word.signed
+    (numbers_of args (length before.nets) rows clock (length args + k))
 shown before after later args steps nets keeps n given rows is clock below k step there inner =
     let base : ℕ = length before.nets in
     let numbers : Numbers = numbers_of args base rows clock in
@@ -117,11 +122,17 @@ arguments-are types args base rows clock count in_range = record {
 input-obeys : (type : FxType) (k : ℕ) (step : Step) (numbers : Numbers) → step_of (Input k) 0 0 0 (word_of type) ≡ step → InRange type (numbers k)
     → IsWrapped (given_by step.op numbers (operands_of numbers step)) step.word.width step.word.signed (numbers k)
 input-obeys type k step numbers is range =
-    let own : IsWrapped (numbers k) (width_of type) (is_signed type) (numbers k) = record { in_word = range-word type (numbers k) range; congruent = IsCongruent-refl (numbers k) (2 ^ width_of type) } in
+    let own : IsWrapped (numbers k) (width_of type) (is_signed type) (numbers k) =
+    record {
+      in_word = range-word type (numbers k) range;
+      congruent =
+          IsCongruent-refl (numbers k) (2 ^ width_of type);
+    } in
     subst (λ (s : Step). IsWrapped (given_by s.op numbers (operands_of numbers s)) s.word.width s.word.signed (numbers k)) is own
 
 -- the numbers that the nets show are those of the plan
-obeys-rows : (before after later : Circuit) (types : List FxType) (args : List ℕ) (start steps : List Step) (multiply : Option ℕ) → IsPutDown before after types args start steps multiply → Keeps before after later
+obeys-rows : (before after later : Circuit) (types : List FxType) (args : List ℕ) (start steps : List Step)
+    (multiply : Option ℕ) → IsPutDown before after types args start steps multiply → Keeps before after later
     → (n : ℕ) (given : Inputs) (rows : Rows) → NetRows later n given rows → (clock : ℕ) → clock < n → AreArguments types (numbers_of args (length before.nets) rows clock) (values_at rows args clock)
     → Obeys steps (numbers_of args (length before.nets) rows clock) (numbers_of args (length before.nets) rows clock)
 obeys-rows before after later types args start steps multiply down keeps n given rows is clock below are = record {
@@ -153,7 +164,8 @@ number-stands (arg ∷ args) base (suc place) = elim (number-stands args base pl
 ]
 
 -- the nets show what the operation gives
-pub lowered : (before after : Circuit) (args : List ℕ) (start steps : List Step) (operation : Operation) (made : Operand) → IsPutDown before after operation.types args start steps (multiply_of operation.op)
+pub lowered : (before after : Circuit) (args : List ℕ) (start steps : List Step) (operation : Operation)
+    (made : Operand) → IsPutDown before after operation.types args start steps (multiply_of operation.op)
     → IsStep steps made → made.word ≡ word_of operation.result → Give steps (λ numbers. OfArguments operation.types numbers (λ values. OpGives operation values (numbers made.place)))
     → IsLowered before after operation args (number_of args (length before.nets) made.place)
 lowered before after args start steps operation made down at word gives = record {
@@ -161,7 +173,8 @@ lowered before after args start steps operation made down at word gives = record
     holds = λ later keeps n given rows is clock below in_range.
         let numbers : Numbers = numbers_of args (length before.nets) rows clock in
         let are : AreArguments operation.types numbers (values_at rows args clock) = arguments-are operation.types args (length before.nets) rows clock down.are_args.count in_range in
-        gives.holds numbers numbers (obeys-rows before after later operation.types args start steps (multiply_of operation.op) down keeps n given rows is clock below are) (values_at rows args clock) are;
+        gives.holds numbers numbers (obeys-rows before after later operation.types args start steps
+        (multiply_of operation.op) down keeps n given rows is clock below are) (values_at rows args clock) are;
   };
   word =
       let can = can-put before operation.types args start steps (multiply_of operation.op) down.are_args down.inputs down.spreads in
@@ -170,7 +183,9 @@ lowered before after args start steps operation made down at word gives = record
   stands = number-stands args (length before.nets) made.place;
 }
 
-step-comb : (before after : Circuit) (args : List ℕ) (steps : List Step) → AreNets before after args steps (length steps) → (k : ℕ) (step : Step) → slice_get steps (length args + k) ≡ Some step → IsComb after (length before.nets + k) step.op
+step-comb : (before after : Circuit) (args : List ℕ) (steps : List Step)
+    → AreNets before after args steps (length steps) → (k : ℕ) (step : Step)
+    → slice_get steps (length args + k) ≡ Some step → IsComb after (length before.nets + k) step.op
 step-comb before after args steps nets k step there = record {
   net = net_of args (length before.nets) step;
   reads = map (number_of args (length before.nets)) (reads_of step);
@@ -185,7 +200,8 @@ comb-step net args base step op reads same kind =
     cc
 
 -- operations alone are put in, with the one Multiply
-pub lowers : (before after : Circuit) (args : List ℕ) (start steps : List Step) (operation : Operation) (made : Operand) → IsPutDown before after operation.types args start steps (multiply_of operation.op)
+pub lowers : (before after : Circuit) (args : List ℕ) (start steps : List Step) (operation : Operation)
+    (made : Operand) → IsPutDown before after operation.types args start steps (multiply_of operation.op)
     → IsStep steps made → Lowers before after operation args
 lowers before after args start steps operation made down at = record {
   appends = down.nets.appends;

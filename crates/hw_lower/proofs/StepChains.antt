@@ -18,12 +18,17 @@ in-words plan inputs numbers enough obeys one at =
     subst (λ (w : Word). InWord w.width w.signed (numbers one.place)) is.word (obeys.each one.place is.step is.is).in_word
 
 -- what the numbers of a plan have, with what they had before it grew, and what follows
-pub gives-on : {old new : Plan} {IsOne : NetOp → Type 0} {P Q : Numbers → Type 0} (R : Numbers → Type 0) → (new.wanting ≡ false → (old.wanting ≡ false) × Adds old.steps new.steps IsOne) → Gives old P → Gives new Q
+pub gives-on : {old new : Plan} {IsOne : NetOp → Type 0} {P Q : Numbers → Type 0} (R : Numbers → Type 0)
+    → (new.wanting ≡ false → (old.wanting ≡ false) × Adds old.steps new.steps IsOne) → Gives old P → Gives new Q
     → ((numbers : Numbers) → P numbers → Q numbers → R numbers) → Gives new R
 gives-on {old} {new} R grows p q f = record {
   give = λ enough.
       let last = grows enough in
-      record { holds = λ inputs numbers obeys. f numbers ((p.give last.0).holds inputs numbers (obeys-before old.steps new.steps inputs numbers last.1 obeys)) ((q.give enough).holds inputs numbers obeys) };
+      record {
+        holds = λ inputs numbers obeys. f numbers
+            ((p.give last.0).holds inputs numbers (obeys-before old.steps new.steps inputs numbers last.1 obeys))
+            ((q.give enough).holds inputs numbers obeys);
+      };
 }
 
 words-given : (plan : Plan) → Gives plan (InWords plan)

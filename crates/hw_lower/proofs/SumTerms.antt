@@ -34,7 +34,9 @@ wrapped-negative v a r width signed p q = record { in_word = q.in_word; congruen
 pub wrapped-difference : (total v a r : ℤ) (width : ℕ) (signed : Bool) → IsWrapped v width signed a → IsWrapped (total -ℤ a) width signed r → IsWrapped (total +ℤ neg_ℤ v) width signed r
 wrapped-difference total v a r width signed p q = record {
   in_word = q.in_word;
-  congruent = congruent-then r (total -ℤ a) (total +ℤ neg_ℤ v) (2 ^ width) q.congruent (congruent-sum total total (neg_ℤ a) (neg_ℤ v) (2 ^ width) (IsCongruent-refl total (2 ^ width)) (congruent-negative a v (2 ^ width) p.congruent));
+  congruent = congruent-then r (total -ℤ a) (total +ℤ neg_ℤ v) (2 ^ width) q.congruent
+      (congruent-sum total total (neg_ℤ a) (neg_ℤ v) (2 ^ width) (IsCongruent-refl total (2 ^ width))
+      (congruent-negative a v (2 ^ width) p.congruent));
 }
 
 pub wrapped-sum : (total v a r : ℤ) (width : ℕ) (signed : Bool) → IsWrapped v width signed a → IsWrapped (total +ℤ a) width signed r → IsWrapped (total +ℤ v) width signed r
@@ -75,7 +77,9 @@ possible frac (s ∷ signs) (t ∷ types) (v ∷ inputs) range same = record {
 
 -- one more term
 sum-more : (frac : ℤ) (signs : List Bool) (types : List FxType) (inputs : List ℤ) → length signs ≡ length types → length inputs ≡ length types → (k : ℕ) → k < length types
-    → signed_sum frac (take (suc k) (zip signs types)) (take (suc k) inputs) ≡ signed_sum frac (take k (zip signs types)) (take k inputs) +ℤ term_of frac (get_or signs k false) (type_of types k) (value_of inputs k)
+    → signed_sum frac (take (suc k) (zip signs types)) (take (suc k) inputs)
+    ≡ signed_sum frac (take k (zip signs types)) (take k inputs) +ℤ term_of frac (get_or signs k false)
+    (type_of types k) (value_of inputs k)
 sum-more frac [] [] inputs same_signs same k h = absurd (omega arith)
 sum-more frac [] (t ∷ types) inputs same_signs same k h = absurd (omega arith)
 sum-more frac (s ∷ signs) [] inputs same_signs same k h = absurd (omega arith)
@@ -99,13 +103,17 @@ module _ (frac : ℤ) (signs : List Bool) (types : List FxType) (width : ℕ) (s
       term ∙ sym (+ℤ_idl (term_of frac (get_or signs 0 false) (type_of types 0) (value_of values 0))) ∙ sym more in
       subst (λ (z : ℤ). IsWrapped z width signed r) whole is
 
-  pub total-more : (k : ℕ) (total r : ℤ) → k < length types → IsTotal frac signs types width signed numbers k total → IsWrapped (total +ℤ term_of frac (get_or signs k false) (type_of types k) (numbers k)) width signed r → IsTotal frac signs types width signed numbers (k + 1) r
+  pub total-more : (k : ℕ) (total r : ℤ) → k < length types → IsTotal frac signs types width signed numbers k total
+      → IsWrapped (total +ℤ term_of frac (get_or signs k false) (type_of types k) (numbers k)) width signed r
+      → IsTotal frac signs types width signed numbers (k + 1) r
   total-more k total r within before is values are =
       let term : term_of frac (get_or signs k false) (type_of types k) (numbers k) ≡ term_of frac (get_or signs k false) (type_of types k) (value_of values k) =
       ap (term_of frac (get_or signs k false) (type_of types k)) (are.each k within) in
       let own : IsWrapped (total +ℤ term_of frac (get_or signs k false) (type_of types k) (value_of values k)) width signed r =
       subst (λ (z : ℤ). IsWrapped (total +ℤ z) width signed r) term is in
-      let whole = wrapped-total total (signed_sum frac (take k (zip signs types)) (take k values)) (term_of frac (get_or signs k false) (type_of types k) (value_of values k)) r width signed (before values are) own in
+      let whole = wrapped-total total (signed_sum frac (take k (zip signs types)) (take k values))
+      (term_of frac (get_or signs k false) (type_of types k) (value_of values k)) r width signed
+      (before values are) own in
       let more = sum-more frac signs types values same_signs are.in_range.count k within in
       let next : suc k ≡ k + 1 = omega arith in
       let at : signed_sum frac (take (k + 1) (zip signs types)) (take (k + 1) values) ≡ signed_sum frac (take (suc k) (zip signs types)) (take (suc k) values) =
@@ -121,7 +129,9 @@ total-is signs types full numbers k total same is_full past is values are =
     let count : length terms ≤ k = omega (arith, length-zip signs types, same) in
     let few : length values ≤ k = omega (arith, are.in_range.count) in
     let whole : IsWrapped (signed_sum (frac_of full) terms values) (width_of full) (is_signed full) total = rw (take_all k terms count, take_all k values few) at (is values are) in
-    let range : InRange full (signed_sum (frac_of full) terms values) = is_full.holds (signed_sum (frac_of full) terms values) (possible (frac_of full) signs types values are.in_range.in_range are.in_range.count) in
+    let range : InRange full (signed_sum (frac_of full) terms values) =
+    is_full.holds (signed_sum (frac_of full) terms values)
+    (possible (frac_of full) signs types values are.in_range.in_range are.in_range.count) in
     wrapped-is (signed_sum (frac_of full) terms values) (width_of full) (is_signed full) total (type-word full is_full.valid) (range-word full (signed_sum (frac_of full) terms values) range) whole
 
 -- two terms, the first of which is never subtracted

@@ -55,10 +55,13 @@ max-self : (f : ℤ) → int_max f f ≡ f
 max-self f = elim (int_max_cases f f) [ inl k ↦ k | inr k ↦ k ]
 
 max-left : (f g : ℤ) → f ≤ℤ int_max f g
-max-left f g = by_lt_z g f (λ below. subst (λ (b : Bool). f ≤ℤ cond b f g) (sym (lt-yes g f below)) (omega (arith, ints))) (λ above. subst (λ (b : Bool). f ≤ℤ cond b f g) (sym (lt-no g f above)) above)
+max-left f g = by_lt_z g f (λ below. subst (λ (b : Bool). f ≤ℤ cond b f g) (sym (lt-yes g f below))
+    (omega (arith, ints))) (λ above. subst (λ (b : Bool). f ≤ℤ cond b f g) (sym (lt-no g f above)) above)
 
 max-right : (f g : ℤ) → g ≤ℤ int_max f g
-max-right f g = by_lt_z g f (λ below. subst (λ (b : Bool). g ≤ℤ cond b f g) (sym (lt-yes g f below)) (omega (arith, ints, below))) (λ above. subst (λ (b : Bool). g ≤ℤ cond b f g) (sym (lt-no g f above)) (omega (arith, ints)))
+max-right f g = by_lt_z g f (λ below. subst (λ (b : Bool). g ≤ℤ cond b f g) (sym (lt-yes g f below))
+    (omega (arith, ints, below)))
+    (λ above. subst (λ (b : Bool). g ≤ℤ cond b f g) (sym (lt-no g f above)) (omega (arith, ints)))
 
 -- what a union is for both of its types
 pub record IsHolder (a b union : FxType) : Type 0 where
@@ -72,7 +75,15 @@ union-holds a b union valid is =
     elim (type-cases a b) [
       | inl e ↦
           let own : union ≡ a = is.same e in
-          subst (λ (u : FxType). IsHolder a b u) (sym own) (subst (λ (t : FxType). IsHolder a t a) e (record { valid = valid; frac = sym (max-self (frac_of a)); left = holds-self a; right = holds-self a }))
+          subst (λ (u : FxType). IsHolder a b u) (sym own)
+          (subst (λ (t : FxType). IsHolder a t a) e
+          (record {
+            valid = valid;
+            frac = sym (max-self (frac_of a));
+            left =
+                holds-self a;
+            right = holds-self a;
+          }))
       | inr n ↦ let both = is.different n in record { valid = both.valid; frac = both.frac; left = both.left; right = both.right }
     ]
 

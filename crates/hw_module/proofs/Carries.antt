@@ -68,7 +68,8 @@ step-by e p is = ap (λ (o : Option ℕ). unwrap_or o 1) is
 
 module _ {netlist : Circuit} {names : List (List ℕ)} {diagram : Diagram} {plan : Resolved} {timing : Timing} {m : Module}
     (built : Offers netlist names diagram plan timing) (made : IsEmissionOf netlist m) where
-  pub has-header : HasHeader m plan.cycles (map (λ e. input_port (input_data e)) (input_elements names diagram)) (map (λ e. output_port (output_data diagram plan timing e)) (output_elements names diagram))
+  pub has-header : HasHeader m plan.cycles (map (λ e. input_port (input_data e)) (input_elements names diagram))
+      (map (λ e. output_port (output_data diagram plan timing e)) (output_elements names diagram))
   has-header =
       let ins = relabelled input_port (data_port netlist) input_data netlist.inputs (input_elements names diagram) built.ports.inputs in
       let outs = relabelled output_port (data_port netlist) (output_data diagram plan timing) netlist.outputs (output_elements names diagram) built.ports.outputs in
@@ -108,14 +109,18 @@ module _ {netlist : Circuit} {names : List (List ℕ)} {diagram : Diagram} {plan
         let wide : (net_at netlist.nets x.0.net).width ≡ width_of e.root.type = ap (λ (d : DataPort). d.width) x.2 in
         let sign : (net_at netlist.nets x.0.net).signed ≡ is_signed e.root.type = ap (λ (d : DataPort). d.signed) x.2 in
         let stands : x.0.period ≡ step_of e.root = ap (λ (d : DataPort). d.period) x.2 in
-        let word : InWord (net_at netlist.nets x.0.net).width (net_at netlist.nets x.0.net).signed (column_of_stimulus (root_inputs diagram (attributes_of diagram)) stimulus place t) = rw (wide, sign) within in
+        let word : InWord (net_at netlist.nets x.0.net).width (net_at netlist.nets x.0.net).signed
+        (column_of_stimulus (root_inputs diagram (attributes_of diagram)) stimulus place t) =
+        rw (wide, sign) within in
         let input = built.runs.inputs place x.0 x.1 in
         let there = get-below netlist.nets x.0.net input.net input.is in
         input-shows built.runs built.emittable made run.driven steady.enabled run.runs place x.0 x.1 t clock early
         (subst (λ (n : ℕ). t % n ≡ 0) (sym stands) hit) (omega (arith, from))
         (subst (λ (n : ℕ). clock < (t + n) * netlist.cycles) (sym stands) (omega (arith, until))) (omega (arith, below)) word there
 
-    input-fed : (place : ℕ) (e : RootElement) (t clock : ℕ) → slice_get (root_inputs diagram (attributes_of diagram)) place ≡ Some e → t < samples → clock < clocks → IsSeen netlist.cycles e.period 0 0 t clock
+    input-fed : (place : ℕ) (e : RootElement) (t clock : ℕ)
+        → slice_get (root_inputs diagram (attributes_of diagram)) place ≡ Some e → t < samples → clock < clocks
+        → IsSeen netlist.cycles e.period 0 0 t clock
         → inputs_from netlist window.last_reset rows place clock ≡ stimulus e.number e.element t
     input-fed place e t clock is early below seen =
         let p = periods place e is in
@@ -141,7 +146,8 @@ module _ {netlist : Circuit} {names : List (List ℕ)} {diagram : Diagram} {plan
         let wide : (net_at netlist.nets x.0.net).width ≡ width_of e.root.type = ap (λ (d : DataPort). d.width) x.2 in
         let name : x.0.name ≡ e.name = ap (λ (d : DataPort). d.name) x.2 in
         let within : clock < clocks = omega arith in
-        let entry = (built.outputs stimulus samples clocks (inputs_from netlist window.last_reset rows) (rows_from netlist window.last_reset rows) table net-run place x.0 e x.1 is).at t clock early within
+        let entry = (built.outputs stimulus samples clocks (inputs_from netlist window.last_reset rows)
+        (rows_from netlist window.last_reset rows) table net-run place x.0 e x.1 is).at t clock early within
         (record { is_hit = hit; from = omega (arith, from); until = until }) in
         ap (rows (row_at window clock)) (sym name)
         ∙ output-bits built.runs built.emittable made run.driven steady.enabled run.runs x.0 (got netlist.outputs place x.0 x.1) clock below

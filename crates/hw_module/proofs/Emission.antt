@@ -13,7 +13,9 @@ use Rattle.vl_emit.specs.Registers.{RegistersAre}
 use Rattle.vl_emit.specs.Shown.{NetsAreShown, NetsFit, OutputsAreShown}
 use Rattle.hw_module.specs.inner.Emission.{IsEmissionOf}
 
-pub emission-of : {E : Type 0} (netlist : Circuit) (r : Result Module E) → IfOk r (HasHeader netlist) → IfOk r BreaksNone → IfOk r KeepsBits → IfOk r (NetsAreShown netlist) → IfOk r (OutputsAreShown netlist) → IfOk r (ProductsAre netlist) → IfOk r (ReadsOnly netlist)
+pub emission-of : {E : Type 0} (netlist : Circuit) (r : Result Module E) → IfOk r (HasHeader netlist)
+    → IfOk r BreaksNone → IfOk r KeepsBits → IfOk r (NetsAreShown netlist) → IfOk r (OutputsAreShown netlist)
+    → IfOk r (ProductsAre netlist) → IfOk r (ReadsOnly netlist)
     → IfOk r (RegistersAre netlist) → IfOk r (LabelsAreNames netlist) → IfOk r (ItemsAre netlist) → IfOk r (λ m. NamesDiffer netlist) → IfOk r (NetsFit netlist) → IfOk r (IsEmissionOf netlist)
 emission-of netlist (Ok m) header conditions keeps nets outputs products reads registers labels items names fit = record {
   header = header;

@@ -52,7 +52,9 @@ one-name netlist k (Bridge frame live from) = refl
 one-name netlist k (Unit left right) = refl
 one-name netlist k (Counter frame) = refl
 
-pub names-counted : (netlist : Circuit) → length (flat_map (λ k. register_name netlist k (net_at netlist.nets k).kind) (places (length netlist.nets))) ≡ register_count netlist.nets + counter_count netlist.nets
+pub names-counted : (netlist : Circuit)
+    → length (flat_map (λ k. register_name netlist k (net_at netlist.nets k).kind) (places (length netlist.nets)))
+    ≡ register_count netlist.nets + counter_count netlist.nets
 names-counted netlist = held-count (λ k net. register_name netlist k net.kind) (λ k net. one-name netlist k net.kind) netlist.nets
 
 -- ---- products
@@ -122,7 +124,8 @@ module _ (netlist : Circuit) where
   owns-same = all-same (λ (net : Net). comb_product net.width net.kind) (λ (net : Net). own_factors net.kind) (λ net. own-same net.width net.kind) netlist.nets
 
   -- the products are the factors of the multipliers, and then of the other multiplications
-  pub product-at : (k : ℕ) (factors : Factors) → slice_get (multipliers netlist) k ≡ Some factors → (product : Product) × (slice_get (products_of netlist) k ≡ Some product) × (factors_of product ≡ factors)
+  pub product-at : (k : ℕ) (factors : Factors) → slice_get (multipliers netlist) k ≡ Some factors
+      → (product : Product) × (slice_get (products_of netlist) k ≡ Some product) × (factors_of product ≡ factors)
   product-at k factors at =
       let x = map-get factors_of units k factors (ap (λ (l : List Factors). slice_get l k) units-same ∙ at) in
       (x.0, ap (λ (l : List Product). slice_get l k) products-are ∙ in-first units owns k x.0 x.1, x.2)

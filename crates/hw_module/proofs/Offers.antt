@@ -1,5 +1,6 @@
 -- A netlist that is built for a diagram offers to its module what it needs.
-use Rattle.std.proofs.Common.{◌≡◌, ℕ, zero, suc, ◌+◌, ◌*◌, ◌<◌, ◌≤◌, true, false, List, [], ◌∷◌, ◌++◌, map, length, drop, Option, Some, slice_get, ℤ, refl, ap, sym, ◌∙◌, subst, arith, append-nil, length-append}
+use Rattle.std.proofs.Common.{◌≡◌, ℕ, zero, suc, ◌+◌, ◌*◌, ◌<◌, ◌≤◌, true, false, List, [], ◌∷◌, ◌++◌, map, length, drop, Option, Some, slice_get, ℤ, refl, ap, sym, ◌∙◌, subst, arith, append-nil}
+use Rattle.std.proofs.Common.{length-append}
 use Rattle.std.proofs.Math.Seq.{drop-append_seam}
 use Rattle.std.proofs.lemmas.List.{map-append, length-map}
 use Rattle.std.proofs.lemmas.Option.{get_or_from_slice_get, slice_get-get_or}
@@ -7,7 +8,8 @@ use Rattle.fx_type.specs.FxType.{is_signed, width_of}
 use Rattle.dg_model.specs.declared.diagram.Diagram.{Diagram}
 use Rattle.dg_model.specs.declared.diagram.Block.{Block}
 use Rattle.dg_model.specs.declared.kind.Kind.{Kind}
-use Rattle.dg_model.specs.declared.kind.Kind.TheVariants.{Inport, Outport, Constant, Ground, Sum, Gain, Product, Switch, Relational, Logic, Convert, Delay, Mux, Demux, RateTransition, Pass, EnableTest, EnOut, Terminator}
+use Rattle.dg_model.specs.declared.kind.Kind.TheVariants.{Inport, Outport, Constant, Ground, Sum, Gain, Product, Switch, Relational, Logic, Convert, Delay, Mux, Demux, RateTransition, Pass}
+use Rattle.dg_model.specs.declared.kind.Kind.TheVariants.{EnableTest, EnOut, Terminator}
 use Rattle.dg_model.specs.declared.resolved.Resolved.{Resolved}
 use Rattle.dg_model.specs.Attributes.{attributes_of}
 use Rattle.dg_model.specs.Hits.{Hits}
@@ -77,7 +79,8 @@ output-is Terminator number e = absurd (cc e)
 
 -- a block without a pipeline shows its entries behind as before it
 settled : (times : Times) (block clocks n p : ℕ) (period : Option ℕ) (entry : ℕ → ℤ) (wave : Wave) → period ≡ Some p → times.stages block ≡ 0
-    → Shows clocks n times.cycles period (latency_behind times period block) (ready_after times block) entry wave → Shows clocks n times.cycles (Some p) (times.latency block) (times.ready block) entry wave
+    → Shows clocks n times.cycles period (latency_behind times period block) (ready_after times block) entry wave
+    → Shows clocks n times.cycles (Some p) (times.latency block) (times.ready block) entry wave
 settled times block clocks n p period entry wave is none shows =
     let none_late : times.stages block * p ≡ 0 * p = ap (λ (s : ℕ). s * p) none in
     let late : latency_behind times period block ≡ times.latency block = ap (λ (o : Option ℕ). latency_behind times o block) is ∙ omega (arith, none_late) in
@@ -176,7 +179,9 @@ module _ (listed : OutputsAreListed) (moving : MovingHavePeriods) (have_periods 
         ∙ ap (λ (l : List (List ℕ)). map input_data (named l ins)) (sym (map-append (λ (port : NetPort). port.name) netlist.inputs netlist.outputs));
     outputs = zipped (data_port netlist) (output_data diagram plan timing) netlist.outputs [] outs built.ports.output_count
         (λ k e port at there. (let x = output-of k e at in
-        port-is netlist e (built.places.after e.block 1 e.element) (declared_latency diagram (attributes_of diagram) plan timing e.block) port x.period x.own_period (built.ports.outputs k e port at there)))
+        port-is netlist e (built.places.after e.block 1 e.element)
+        (declared_latency diagram (attributes_of diagram) plan timing e.block) port x.period x.own_period
+        (built.ports.outputs k e port at there)))
         ∙ ap (λ (l : List (List ℕ)). map (output_data diagram plan timing) (named l outs)) (append-nil (map (λ (port : NetPort). port.name) netlist.outputs) ∙ sym seam);
   }
 
@@ -187,9 +192,16 @@ module _ (listed : OutputsAreListed) (moving : MovingHavePeriods) (have_periods 
       let h = built.ports.outputs place e.root port root there in
       let step : step_of e.root ≡ x.period = step-by e.root x.period x.own_period in
       let shown = (built.shows.elements stimulus n clocks inputs rows table run e.root.block x.b 1 e.root.element x.shown).after in
-      let plain = settled (timing_by diagram plan timing) e.root.block clocks n x.period ((attributes_of diagram).period_at e.root.block) (table e.root.block 1 e.root.element) (rows (built.places.after e.root.block 1 e.root.element)) x.at_period x.none shown in
-      let moved = subst (λ (k : ℕ). Shows clocks n plan.cycles (Some x.period) ((timing_by diagram plan timing).latency e.root.block) ((timing_by diagram plan timing).ready e.root.block) (table e.root.block 1 e.root.element) (rows k)) (sym h.net) plain in
-      subst (λ (p : ℕ). Shows clocks n plan.cycles (Some p) ((timing_by diagram plan timing).latency e.root.block) ((timing_by diagram plan timing).ready e.root.block) (table e.root.block 1 e.root.element) (rows port.net)) (sym step) moved
+      let plain = settled (timing_by diagram plan timing) e.root.block clocks n x.period
+      ((attributes_of diagram).period_at e.root.block) (table e.root.block 1 e.root.element)
+      (rows (built.places.after e.root.block 1 e.root.element)) x.at_period x.none shown in
+      let moved = subst (λ (k : ℕ). Shows clocks n plan.cycles (Some x.period)
+      ((timing_by diagram plan timing).latency e.root.block)
+      ((timing_by diagram plan timing).ready e.root.block) (table e.root.block 1 e.root.element) (rows k))
+      (sym h.net) plain in
+      subst (λ (p : ℕ). Shows clocks n plan.cycles (Some p) ((timing_by diagram plan timing).latency e.root.block)
+      ((timing_by diagram plan timing).ready e.root.block) (table e.root.block 1 e.root.element)
+      (rows port.net)) (sym step) moved
 
   word-of : (block element : ℕ) (b : Block) → IsShown diagram (attributes_of diagram) block b 1 element → (k : ℕ) → 1 ≤ k → k ≤ stages_at plan block
       → HasWord netlist.nets (built.places.stage block 1 element k) (width_of ((attributes_of diagram).type_at block 1)) (is_signed ((attributes_of diagram).type_at block 1))
@@ -200,7 +212,9 @@ module _ (listed : OutputsAreListed) (moving : MovingHavePeriods) (have_periods 
       → (stimulus : Stimulus) (n clocks : ℕ) (inputs : Inputs) (rows : Rows) (table : Table) → IsRunOf diagram netlist stimulus n clocks inputs rows table → (k : ℕ) → 1 ≤ k → k ≤ stages_at plan block
       → Shows clocks n plan.cycles (Some period) (latency_at timing.lat block + k * period) 0 (table block 1 element) (rows (built.places.stage block 1 element k))
   stage-shown block element period b shown is stimulus n clocks inputs rows table run zero some most = absurd (omega (arith, some))
-  stage-shown block element period b shown is stimulus n clocks inputs rows table run (suc k) some most = built.shows.stages stimulus n clocks inputs rows table run block b 1 element k period shown is (omega (arith, most))
+  stage-shown block element period b shown is stimulus n clocks inputs rows table run (suc k) some most =
+      built.shows.stages stimulus n clocks inputs rows table run block b 1 element k period shown is
+      (omega (arith, most))
 
   pub offers : Offers netlist names diagram plan timing
   offers = record {
@@ -216,7 +230,9 @@ module _ (listed : OutputsAreListed) (moving : MovingHavePeriods) (have_periods 
           product = x.0;
           at = x.1;
           has = λ stimulus n clocks inputs rows table run t early hit below.
-              subst (λ (f : Factors). AreOperands diagram table o.block b o.element t (rows f.left (clock_of diagram plan timing number o t)) (rows f.right (clock_of diagram plan timing number o t))) (sym x.2)
+              subst (λ (f : Factors). AreOperands diagram table o.block b o.element t
+              (rows f.left (clock_of diagram plan timing number o t))
+              (rows f.right (clock_of diagram plan timing number o t))) (sym x.2)
               (s.serves stimulus n clocks inputs rows table run t p.0 p.1 (subst (λ (q : Option ℕ). Hits q t) p.1 hit) early below);
         };
     products = (let a = products-counted netlist in let b = built.serves.shared in let c = built.serves.own in a ∙ (λ i. b i + c i));

@@ -1,5 +1,6 @@
 -- The pipelines of a built module: their items, who reads them, and what they show.
-use Rattle.std.proofs.Common.{◌≡◌, ◌≢◌, ◌⊎◌, inl, inr, ℕ, zero, suc, ◌+◌, ◌-◌, ◌*◌, ◌<◌, ◌≤◌, Bool, true, false, if◌then◌else◌, List, [], ◌∷◌, All, length, Contains, Some, None, codes, ℤ, Option, refl, ap, sym, ◌∙◌, subst, arith}
+use Rattle.std.proofs.Common.{◌≡◌, ◌≢◌, ◌⊎◌, inl, inr, ℕ, zero, suc, ◌+◌, ◌-◌, ◌*◌, ◌<◌, ◌≤◌, Bool, true, false, if◌then◌else◌, List, [], ◌∷◌, All, length, Contains, Some, None, codes, ℤ, Option}
+use Rattle.std.proofs.Common.{refl, ap, sym, ◌∙◌, subst, arith}
 use Rattle.std.proofs.lemmas.List.Elements.{All-contains}
 use Rattle.std.proofs.lemmas.Option.{get_or_from_slice_get}
 use Rattle.fx_type.specs.FxType.{width_of}
@@ -56,7 +57,9 @@ names_read-name x = ap names_read (sym (rolls-Name x)) ∙ fold-roll-Expr (List 
 counter-below : (nets : List Net) (start : ℕ) (frame : Frame) (number : ℕ) → counter_from nets start frame ≡ Some number → number < start + length nets
 counter-below [] start frame number e = absurd (cc e)
 counter-below (net ∷ nets) start frame number e = by (is_frame frame (counted_frame net.kind)) (λ f. counter-below nets (start + 1) frame number f) e where
-  by : (t : Bool) → (counter_from nets (start + 1) frame ≡ Some number → number < start + 1 + length nets) → (if t then Some start else counter_from nets (start + 1) frame) ≡ Some number → number < start + length (net ∷ nets)
+  by : (t : Bool) → (counter_from nets (start + 1) frame ≡ Some number → number < start + 1 + length nets)
+      → (if t then Some start else counter_from nets (start + 1) frame) ≡ Some number
+      → number < start + length (net ∷ nets)
   by true further f = let same : start ≡ number = cc f in omega arith
   by false further f = let rest = further f in omega (arith, rest)
 
@@ -117,16 +120,27 @@ module _ {netlist : Circuit} {m : Module} (runs : IsNetlist netlist) (emits : Is
       names-of k below name =
           alone.alone k below
           (reader k (net_at netlist.nets k).kind below refl
-          (λ j d. All-contains (λ (n : ℕ). n < length netlist.nets) (reads (net_at netlist.nets k).kind) j (All-contains (λ (n : Net). All (λ read. read < length netlist.nets) (reads n.kind)) netlist.nets (net_at netlist.nets k) runs.there (net-contains k below)) d)
-          (λ number args e. input-there (net_at netlist.nets k).kind number args e (All-contains (λ (n : Net). IsKind netlist.nets netlist.cycles (length netlist.inputs) n.width n.signed n.kind) netlist.nets (net_at netlist.nets k) runs.kinds (net-contains k below)))
+          (λ j d. All-contains (λ (n : ℕ). n < length netlist.nets) (reads (net_at netlist.nets k).kind) j
+          (All-contains (λ (n : Net). All (λ read. read < length netlist.nets) (reads n.kind)) netlist.nets
+          (net_at netlist.nets k) runs.there (net-contains k below)) d)
+          (λ number args e. input-there (net_at netlist.nets k).kind number args e
+          (All-contains (λ (n : Net). IsKind netlist.nets netlist.cycles
+          (length netlist.inputs) n.width n.signed n.kind) netlist.nets (net_at netlist.nets k) runs.kinds
+          (net-contains k below)))
           (enable-not (made.reads.nets k below i c name (name_of netlist read) r)))
         where
-          enable-not : MayRead netlist k (net_at netlist.nets k).kind (name_of netlist read) ⊎ (name_of netlist read ≡ codes "clk_enable") → MayRead netlist k (net_at netlist.nets k).kind (name_of netlist read)
+          enable-not : MayRead netlist k (net_at netlist.nets k).kind (name_of netlist read)
+              ⊎ (name_of netlist read ≡ codes "clk_enable")
+              → MayRead netlist k (net_at netlist.nets k).kind (name_of netlist read)
           enable-not (inl may) = may
           enable-not (inr e) = absurd (not-enable e)
 
-          input-there : (kind : NetKind) (number : ℕ) (args : List ℕ) → kind ≡ Comb (Input number) args → IsKind netlist.nets netlist.cycles (length netlist.inputs) (net_at netlist.nets k).width (net_at netlist.nets k).signed kind → number < length netlist.inputs
-          input-there kind number args e is = (subst (λ (t : NetKind). IsKind netlist.nets netlist.cycles (length netlist.inputs) (net_at netlist.nets k).width (net_at netlist.nets k).signed t) e is).1
+          input-there : (kind : NetKind) (number : ℕ) (args : List ℕ) → kind ≡ Comb (Input number) args
+              → IsKind netlist.nets netlist.cycles (length netlist.inputs) (net_at netlist.nets k).width
+              (net_at netlist.nets k).signed kind → number < length netlist.inputs
+          input-there kind number args e is =
+              (subst (λ (t : NetKind). IsKind netlist.nets netlist.cycles (length netlist.inputs)
+              (net_at netlist.nets k).width (net_at netlist.nets k).signed t) e is).1
 
       no-bridge : (kind : NetKind) → IsPlain kind → IsBridge kind → ⊥
       no-bridge (Comb op args) p b = b
@@ -184,7 +198,9 @@ counter-kind [] start frame number e = absurd (cc e)
 counter-kind (net ∷ nets) start frame number e =
     by (is_frame frame (counted_frame net.kind)) refl (λ f. counter-kind nets (start + 1) frame number f) (λ f. counter-from nets (start + 1) frame number f) e
   where
-    by : (t : Bool) → is_frame frame (counted_frame net.kind) ≡ t → (counter_from nets (start + 1) frame ≡ Some number → CountsAt nets (number - (start + 1))) → (counter_from nets (start + 1) frame ≡ Some number → start + 1 ≤ number)
+    by : (t : Bool) → is_frame frame (counted_frame net.kind) ≡ t
+        → (counter_from nets (start + 1) frame ≡ Some number → CountsAt nets (number - (start + 1)))
+        → (counter_from nets (start + 1) frame ≡ Some number → start + 1 ≤ number)
         → (if t then Some start else counter_from nets (start + 1) frame) ≡ Some number → CountsAt (net ∷ nets) (number - start)
     by true t further later f =
         let same : start ≡ number = cc f in
@@ -209,7 +225,8 @@ uncounted-by netlist read plain frame e =
     let same : read - 0 ≡ read = omega arith in
     plain-uncounted (net_at netlist.nets read).kind plain c.0 (subst (λ (k : ℕ). counted_frame (net_at netlist.nets k).kind ≡ Some c.0) same c.1)
 
-module _ {netlist : Circuit} {names : List (List ℕ)} {diagram : Diagram} {plan : Resolved} {timing : Timing} {m : Module} (built : Offers netlist names diagram plan timing) (made : IsEmissionOf netlist m) where
+module _ {netlist : Circuit} {names : List (List ℕ)} {diagram : Diagram} {plan : Resolved} {timing : Timing}
+    {m : Module} (built : Offers netlist names diagram plan timing) (made : IsEmissionOf netlist m) where
   module _ (block element period : ℕ) (p : HasPipeline netlist diagram plan timing block element period) where
     stage-called : (k : ℕ) → k < stages_at plan block → name_of netlist (p.stage (suc k)) ≡ stage_name block element (suc k)
     stage-called k below = made.labels.are (record { net = p.stage (suc k); name = stage_name block element (suc k) }) (p.stages k below).label
@@ -225,7 +242,9 @@ module _ {netlist : Circuit} {names : List (List ℕ)} {diagram : Diagram} {plan
     alone-at : (k : ℕ) → k < stages_at plan block → IsReadByAlone m (name_of netlist (p.stage k)) (name_of netlist (p.stage (suc k)))
     alone-at k below =
         let plain = stage-plain k (omega (arith, below)) in
-        read-alone built.runs built.emittable made (p.stage k) (stage-there k (omega (arith, below))) plain (uncounted-by netlist (p.stage k) plain) (p.stage (suc k)) (p.alone k below) (stage-plain (suc k) (omega (arith, below)))
+        read-alone built.runs built.emittable made (p.stage k) (stage-there k (omega (arith, below))) plain
+        (uncounted-by netlist (p.stage k) plain) (p.stage (suc k)) (p.alone k below)
+        (stage-plain (suc k) (omega (arith, below)))
 
     register-at : (k : ℕ) → k < stages_at plan block → IsRegisterOf m (name_of netlist (p.stage (suc k))) (name_of netlist (p.stage k))
     register-at k below = (let s = p.stages k below in made.items.registers (p.stage (suc k)) s.there s.frame s.slot s.first (p.stage k) s.kind)
@@ -261,7 +280,9 @@ module _ {netlist : Circuit} {names : List (List ℕ)} {diagram : Diagram} {plan
         → AtHits period samples (λ t. ShowsThroughout window rows (stage_name block element k) (width_of ((attributes_of diagram).type_at block 1)) (table block 1 element t)
         ((t + latency_at timing.lat block + k * period) * plan.cycles) ((t + latency_at timing.lat block + (k + 1) * period) * plan.cycles))
     stage-shows columns periods {samples} {window} {stimulus} {table} {rows} run k some most t early hit clock from until below =
-        let entry = (p.shows stimulus samples (window.rows - (window.last_reset + 1)) (inputs_from netlist window.last_reset rows) (rows_from netlist window.last_reset rows) table (net-run built made columns periods run) k some most).at
+        let entry = (p.shows stimulus samples (window.rows - (window.last_reset + 1))
+        (inputs_from netlist window.last_reset rows) (rows_from netlist window.last_reset rows) table
+        (net-run built made columns periods run) k some most).at
         t clock early (omega (arith, below)) (record { is_hit = hit; from = omega (arith, from); until = omega (arith, until) }) in
         let word = p.words k some most in
         let same : net_at netlist.nets (p.stage k) ≡ word.net = get_or_from_slice_get netlist.nets (p.stage k) word.net _ word.is in

@@ -64,7 +64,9 @@ held-all (net ∷ nets) = (let one = held-one net.kind in let rest = held-all ne
 abbrev port_of : Face → DataPort
 port_of f = record { name = f.name; width = f.width; signed = f.signed; period = f.period; latency = f.latency }
 
-shows-by : (clocks n cycles latency ready : ℕ) (period : Option ℕ) (entry : ℕ → ℤ) (one other : Wave) → ((c : ℕ) → c < clocks → one c ≡ other c) → Shows clocks n cycles period latency ready entry one → Shows clocks n cycles period latency ready entry other
+shows-by : (clocks n cycles latency ready : ℕ) (period : Option ℕ) (entry : ℕ → ℤ) (one other : Wave)
+    → ((c : ℕ) → c < clocks → one c ≡ other c) → Shows clocks n cycles period latency ready entry one
+    → Shows clocks n cycles period latency ready entry other
 shows-by clocks n cycles latency ready period entry one other same shows = record { at = λ t clock early below seen. sym (same clock below) ∙ shows.at t clock early below seen }
 
 module _ {old new : Circuit} (runs : IsNetlist new) (emits : IsEmittable new) (r : Refines old new) where
@@ -83,7 +85,15 @@ module _ {old new : Circuit} (runs : IsNetlist new) (emits : IsEmittable new) (r
         let l = r.labels _ x.named in
         let kind = ap (λ (net : Net). net.kind) (get_or_from_slice_get old.nets x.number x.net _ x.is) ∙ x.multiplies in
         let m = l.multiplies (record { args = x.args; is = kind }) in
-        record { number = r.place x.number; net = net_at new.nets (r.place x.number); args = m.args; is = net-there (r.place x.number) (emits.labels.there _ l.there); multiplies = m.is; named = l.there };
+        record {
+          number = r.place x.number;
+          net = net_at new.nets (r.place x.number);
+          args = m.args;
+          is =
+              net-there (r.place x.number) (emits.labels.there _ l.there);
+          multiplies = m.is;
+          named = l.there;
+        };
   }
 
   module _ {diagram : Diagram} {stimulus : Stimulus} {n clocks : ℕ} {inputs : Inputs} {rows : Rows} {table : Table} (run : IsRunOf diagram new stimulus n clocks inputs rows table) where
@@ -123,7 +133,9 @@ module _ {old new : Circuit} (runs : IsNetlist new) (emits : IsEmittable new) (r
           at = p.1;
           has = λ stimulus n clocks inputs rows table run t early hit within.
               let x = reflects run in
-              let y = zip-get (λ (was is : Product). Agree clocks x.before rows was.left is.left × Agree clocks x.before rows was.right is.right) (products_of old) (products_of new) x.factors k u.product u.at in
+              let y = zip-get (λ (was is : Product). Agree clocks x.before rows was.left is.left
+              × Agree clocks x.before rows was.right is.right) (products_of old)
+              (products_of new) x.factors k u.product u.at in
               let same : y.0 ≡ p.0 = cc (sym y.1 ∙ p.1) in
               let c = clock_of diagram plan timing number q t in
               let left : x.before u.product.left c ≡ rows p.0.left c = y.2.0 c within ∙ ap (λ (z : Product). rows z.left c) same in
@@ -152,7 +164,9 @@ module _ {old new : Circuit} (runs : IsNetlist new) (emits : IsEmittable new) (r
       wire-is : IsComb new (r.place (p.stage 0))
       wire-is = (register-at 0 (omega (arith, some))).wire (record { op = p.op; args = p.args; is = p.wire })
 
-      word-at : (k : ℕ) → 1 ≤ k → k ≤ stages_at plan block → HasWord new.nets (r.place (p.stage k)) (width_of ((attributes_of diagram).type_at block 1)) (is_signed ((attributes_of diagram).type_at block 1))
+      word-at : (k : ℕ) → 1 ≤ k → k ≤ stages_at plan block
+          → HasWord new.nets (r.place (p.stage k)) (width_of ((attributes_of diagram).type_at block 1))
+          (is_signed ((attributes_of diagram).type_at block 1))
       word-at zero low most = absurd (omega (arith, low))
       word-at (suc k) low most =
           let l = label-at k (omega (arith, most)) in
@@ -165,7 +179,8 @@ module _ {old new : Circuit} (runs : IsNetlist new) (emits : IsEmittable new) (r
             sign = l.sign ∙ ap (λ (net : Net). net.signed) same ∙ w.sign;
           }
 
-      shown-at : (stimulus : Stimulus) (n clocks : ℕ) (inputs : Inputs) (rows : Rows) (table : Table) → IsRunOf diagram new stimulus n clocks inputs rows table → (k : ℕ) → 1 ≤ k → k ≤ stages_at plan block
+      shown-at : (stimulus : Stimulus) (n clocks : ℕ) (inputs : Inputs) (rows : Rows) (table : Table)
+          → IsRunOf diagram new stimulus n clocks inputs rows table → (k : ℕ) → 1 ≤ k → k ≤ stages_at plan block
           → Shows clocks n plan.cycles (Some period) (latency_at timing.lat block + k * period) 0 (table block 1 element) (rows (r.place (p.stage k)))
       shown-at stimulus n clocks inputs rows table run zero low most = absurd (omega (arith, low))
       shown-at stimulus n clocks inputs rows table run (suc k) low most =
@@ -196,5 +211,6 @@ module _ {old new : Circuit} (runs : IsNetlist new) (emits : IsEmittable new) (r
       units = λ number q b is at. unit-still number q b (o.units number q b is at);
       products = r.products ∙ o.products;
       pipelines = λ block element period b shown is some. pipeline-still block element period some (o.pipelines block element period b shown is some);
-      registers = (let a = names-counted new in let b = names-counted old in let c = held-all new.nets in let d = held-all old.nets in let e = r.few in let f = o.registers in omega (arith, a, b, c, d, e, f));
+      registers = (let a = names-counted new in let b = names-counted old in let c = held-all new.nets in let d =
+          held-all old.nets in let e = r.few in let f = o.registers in omega (arith, a, b, c, d, e, f));
     }

@@ -84,7 +84,9 @@ module _ (served : OperationsAreServed) (have_periods : OperationsHavePeriods) (
       let c = slot-below number o p.0 is p.1 in
       let d = slot-below other q p.0 also (r.1 ∙ ap Some (sym same)) in
       let l : latency_at timing.lat o.block * plan.cycles ≡ latency_at timing.lat q.block * plan.cycles = ap (λ (x : ℕ). x * plan.cycles) lat in
-      let f : (t / p.0) * (p.0 * plan.cycles) + slot_of diagram (attributes_of diagram) plan timing number o ≡ (s / p.0) * (p.0 * plan.cycles) + slot_of diagram (attributes_of diagram) plan timing other q = omega (arith, a, b, e, l) in
+      let f : (t / p.0) * (p.0 * plan.cycles) + slot_of diagram (attributes_of diagram) plan timing number o
+      ≡ (s / p.0) * (p.0 * plan.cycles) + slot_of diagram (attributes_of diagram) plan timing other q =
+      omega (arith, a, b, e, l) in
       apart.slots (frame-apart (t / p.0) (s / p.0) (p.0 * plan.cycles) _ _ c d f).1
 
   pub services-apart : (number other : ℕ) (o q : Operation) (t s : ℕ) → IsOperation diagram (attributes_of diagram) plan number o → IsOperation diagram (attributes_of diagram) plan other q
@@ -105,7 +107,8 @@ module _ (served : OperationsAreServed) (have_periods : OperationsHavePeriods) (
         e ∙ (λ i. clock_of diagram plan timing (sym same i) (sym one i) s) in
         (same, same-hit number o t s p.0 some hits hits_too f)
 
-module _ {netlist : Circuit} {names : List (List ℕ)} {diagram : Diagram} {plan : Resolved} {timing : Timing} {m : Module} (built : Offers netlist names diagram plan timing) (made : IsEmissionOf netlist m) where
+module _ {netlist : Circuit} {names : List (List ℕ)} {diagram : Diagram} {plan : Resolved} {timing : Timing}
+    {m : Module} (built : Offers netlist names diagram plan timing) (made : IsEmissionOf netlist m) where
   pub owed : MultipliesAsOwed m diagram plan timing
   owed = sym (zip-length (IsProduct netlist m) (products_of netlist) (multiplications m) made.products.each) ∙ built.products
 

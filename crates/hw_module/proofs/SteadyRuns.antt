@@ -39,7 +39,9 @@ module _ {netlist : Circuit} {m : Module} (made : IsEmissionOf netlist m) {diagr
       → Shows m window run.inputs rows name width number from until
   clocks-show name width number from until shows =
       thinned-shows m window run.inputs rows thinned name width number from until
-      (shows-clocks m (thin_window m window run.inputs) thinned.thin_inputs (enabled-count m (thin_window m window run.inputs) thinned.thin_inputs thinned.enabled) thinned.thin_rows name width number from until shows)
+      (shows-clocks m (thin_window m window run.inputs) thinned.thin_inputs
+      (enabled-count m (thin_window m window run.inputs) thinned.thin_inputs thinned.enabled) thinned.thin_rows
+      name width number from until shows)
 
   -- a clock is a row there, and has its bits
   pub clock-below : (clock place : ℕ) → IsClock m window run.inputs clock place → row_at (thin_window m window run.inputs) clock < (thin_window m window run.inputs).rows

@@ -23,7 +23,9 @@ inputs-have-periods listed moving {diagram} scheduled place e is =
     let p = moving diagram e.block own.0 scheduled.checked own.1 (input_moves own.0.kind e.number own.2) in
     (p.0, ap (λ (x : RootElement). x.period) own.4 ∙ p.1)
 
-module _ (columns : StimulusGivesColumns) (listed : InputsAreListed) (outputs : OutputsAreListed) (moving : MovingHavePeriods) (served : OperationsAreServed) (have_periods : OperationsHavePeriods) (differ : SlotsDiffer) (fits : ReadyFits) where
+module _ (columns : StimulusGivesColumns) (listed : InputsAreListed) (outputs : OutputsAreListed)
+    (moving : MovingHavePeriods) (served : OperationsAreServed) (have_periods : OperationsHavePeriods)
+    (differ : SlotsDiffer) (fits : ReadyFits) where
   pub built-modules : BuiltModulesAreOf
   built-modules netlist diagram plan timing m scheduled built made =
       let periods = inputs-have-periods listed moving scheduled in

@@ -32,7 +32,9 @@ any_at (x ∷ xs) name (suc k) below is = or_true (bytes_eq x name) (any_at xs n
     or_true true e = refl
     or_true false e = e
 
-any_found : (x name : List ℕ) (xs : List (List ℕ)) (b : Bool) → bytes_eq x name ≡ b → (b || list_any (λ other. bytes_eq other name) xs) ≡ true → (list_any (λ other. bytes_eq other name) xs ≡ true → Contains xs name) → Contains (x ∷ xs) name
+any_found : (x name : List ℕ) (xs : List (List ℕ)) (b : Bool) → bytes_eq x name ≡ b
+    → (b || list_any (λ other. bytes_eq other name) xs) ≡ true
+    → (list_any (λ other. bytes_eq other name) xs ≡ true → Contains xs name) → Contains (x ∷ xs) name
 any_found x name xs true same h next = (0, omega arith, (bytes_eq-Decides x name).0 same)
 any_found x name xs false same h next = let r = next h in (suc r.0, omega (arith, r.1), r.2)
 
@@ -68,7 +70,9 @@ still_tried list key name number tried = record {
   taken = λ other low below. let h = tried.taken other low below in (suc h.0, omega (arith, h.1), h.2);
 }
 
-pub more_taken : (old new : Names) (list : List (List ℕ)) (key : Vec ℕ Global) → Updates name_cmp old.taken new.taken key true → new.numbers ≡ old.numbers → AreTaken old list → AreTaken new (key.items ∷ list)
+pub more_taken : (old new : Names) (list : List (List ℕ)) (key : Vec ℕ Global)
+    → Updates name_cmp old.taken new.taken key true → new.numbers ≡ old.numbers → AreTaken old list
+    → AreTaken new (key.items ∷ list)
 more_taken old new list key updates same are = record {
   each = λ name.
       updates.0 name
@@ -79,10 +83,14 @@ more_taken old new list key updates same are = record {
 }
 
 -- and one of which numbers were tried
-pub more_tried : (old new : Names) (list : List (List ℕ)) (key : Vec ℕ Global) (number : ℕ) → MapUpdates name_cmp old.numbers new.numbers key (Some number) → new.taken ≡ old.taken → AreTaken old list → AreTried list key.items number → AreTaken new list
+pub more_tried : (old new : Names) (list : List (List ℕ)) (key : Vec ℕ Global) (number : ℕ)
+    → MapUpdates name_cmp old.numbers new.numbers key (Some number) → new.taken ≡ old.taken → AreTaken old list
+    → AreTried list key.items number → AreTaken new list
 more_tried old new list key number updates same are tried = record {
   each = λ name. ap (λ taken. contains name_cmp taken name) same ∙ are.each name;
-  tried = λ name found at. go name found (bytes_eq key.items name.items) refl (sym (updates.0 name ∙ ap (λ b. cond b (Some number) (get name_cmp old.numbers name)) (is_eq-slice_cmp key.items name.items)) ∙ at);
+  tried = λ name found at. go name found (bytes_eq key.items name.items) refl
+      (sym (updates.0 name ∙ ap (λ b. cond b (Some number) (get name_cmp old.numbers name))
+      (is_eq-slice_cmp key.items name.items)) ∙ at);
 }
   where
     go : (name : Vec ℕ Global) (found : ℕ) (b : Bool) → bytes_eq key.items name.items ≡ b → cond b (Some number) (get name_cmp old.numbers name) ≡ Some found → AreTried list name.items found

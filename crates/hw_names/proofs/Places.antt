@@ -17,7 +17,9 @@ use Rattle.dg_model.specs.RootElements.{RootElement, root_element, elements_of_p
 use Rattle.dg_tables.specs.Listing.{AreBlocksOf}
 use Rattle.hw_names.specs.Columns.{AreColumnsFrom}
 
-pub columns_more : (inputs columns : List ℕ) (left block : ℕ) → AreColumnsFrom inputs columns (suc left) → slice_get inputs left ≡ Some block → block < length columns → AreColumnsFrom inputs (slice_set columns block left) left
+pub columns_more : (inputs columns : List ℕ) (left block : ℕ) → AreColumnsFrom inputs columns (suc left)
+    → slice_get inputs left ≡ Some block → block < length columns
+    → AreColumnsFrom inputs (slice_set columns block left) left
 columns_more inputs columns left block are at inside = record {
   least = λ k other k_at low.
       elim (cases_lt block other) [
@@ -26,13 +28,17 @@ columns_more inputs columns left block are at inside = record {
           | inl past ↦ apart k other k_at low (λ e. absurd (omega (arith, past, e)))
           | inr equal ↦
               let same : other ≡ block = omega (arith, more, equal) in
-              let set : slice_index_or (slice_set columns block left) other 0 ≡ left = ap (λ (x : ℕ). slice_index_or (slice_set columns block left) x 0) same ∙ get_or-set_same columns block left 0 inside in
+              let set : slice_index_or (slice_set columns block left) other 0 ≡ left =
+              ap (λ (x : ℕ). slice_index_or (slice_set columns block left) x 0) same
+              ∙ get_or-set_same columns block left 0 inside in
               (ap (slice_get inputs) set ∙ at ∙ ap (λ (x : ℕ). Some x) (sym same), omega (arith, set, low))
         ]
       ];
 }
   where
-    apart : (k other : ℕ) → slice_get inputs k ≡ Some other → left ≤ k → other ≢ block → (slice_get inputs (slice_index_or (slice_set columns block left) other 0) ≡ Some other) × (slice_index_or (slice_set columns block left) other 0 ≤ k)
+    apart : (k other : ℕ) → slice_get inputs k ≡ Some other → left ≤ k → other ≢ block
+        → (slice_get inputs (slice_index_or (slice_set columns block left) other 0) ≡ Some other)
+        × (slice_index_or (slice_set columns block left) other 0 ≤ k)
     apart k other k_at low differ =
         let set : slice_index_or (slice_set columns block left) other 0 ≡ slice_index_or columns other 0 = get_or-set_other columns block other left 0 differ in
         elim (cases_lt left k) [
@@ -72,19 +78,25 @@ module _ (a : Attributes) (width_of : ℕ → ℕ) where
             ap (slice_get (part ++ rest)) later ∙ get_right part rest (j + m) ∙ next j (sym (get_right part rest j) ∙ ap (slice_get (part ++ rest)) (sym split) ∙ at)
       ]
 
-  run : (place_of : ℕ → Option ℕ) (ns : List ℕ) (k number block m : ℕ) → slice_get (flat_map (λ n. elements_of_port a width_of n (place_of n)) ns) k ≡ Some (root_element a number block 0) → m < width_of block
+  run : (place_of : ℕ → Option ℕ) (ns : List ℕ) (k number block m : ℕ)
+      → slice_get (flat_map (λ n. elements_of_port a width_of n (place_of n)) ns) k
+      ≡ Some (root_element a number block 0) → m < width_of block
       → slice_get (flat_map (λ n. elements_of_port a width_of n (place_of n)) ns) (k + m) ≡ Some (root_element a number block m)
   run place_of [] k number block m at below = absurd (none-some (root_element a number block 0) at)
   run place_of (n ∷ ns) k number block m at below =
       run_by (place_of n) n (flat_map (λ n. elements_of_port a width_of n (place_of n)) ns) k number block m at below (λ j h. run place_of ns j number block m h below)
 
 -- the elements of root ports, inputs or outputs, by the columns at which their blocks first stand
-module _ (number_of : Role → Option ℕ) (width_of : ℕ → ℕ) (diagram : Diagram) (all : AreRootElements number_of width_of diagram (attributes_of diagram) (root_elements number_of width_of diagram (attributes_of diagram))) where
+module _ (number_of : Role → Option ℕ) (width_of : ℕ → ℕ) (diagram : Diagram)
+    (all : AreRootElements number_of width_of diagram (attributes_of diagram)
+    (root_elements number_of width_of diagram (attributes_of diagram))) where
   abbrev elements : List RootElement
   elements = root_elements number_of width_of diagram (attributes_of diagram)
 
   -- the first column of its block, and its place there
-  pub place_is : (inputs columns : List ℕ) (k : ℕ) (e : RootElement) → AreBlocksOf elements inputs → AreColumnsFrom inputs columns 0 → slice_get elements k ≡ Some e → slice_index_or columns e.block 0 + e.element ≡ k
+  pub place_is : (inputs columns : List ℕ) (k : ℕ) (e : RootElement) → AreBlocksOf elements inputs
+      → AreColumnsFrom inputs columns 0 → slice_get elements k ≡ Some e
+      → slice_index_or columns e.block 0 + e.element ≡ k
   place_is inputs columns k e blocks are at =
       let of = all.elements_of k e at in
       let low = of.3 in
@@ -94,12 +106,18 @@ module _ (number_of : Role → Option ℕ) (width_of : ℕ → ℕ) (diagram : D
       let of_f = all.elements_of j f f_at in
       let low_f = of_f.3 in
       let wide : width_of f.block ≡ width_of e.block = ap width_of block_is in
-      let here = run (attributes_of diagram) width_of (λ number. position (has_number number_of number) diagram.blocks) (numbers_from 1 _) first.0 e.number e.block f.element first.1 (omega (arith, low_f, wide)) in
+      let here = run (attributes_of diagram) width_of
+      (λ number. position (has_number number_of number) diagram.blocks)
+      (numbers_from 1 _) first.0 e.number e.block f.element first.1 (omega (arith, low_f, wide)) in
       all.different j (first.0 + f.element) f (root_element (attributes_of diagram) e.number e.block f.element) f_at here number_is refl
       in
-      let block_at : slice_get inputs first.0 ≡ Some e.block = ap (λ (xs : List ℕ). slice_get xs first.0) blocks ∙ there_map (λ (x : RootElement). x.block) elements first.0 (root_element (attributes_of diagram) e.number e.block 0) first.1 in
+      let block_at : slice_get inputs first.0 ≡ Some e.block =
+      ap (λ (xs : List ℕ). slice_get xs first.0) blocks
+      ∙ there_map (λ (x : RootElement). x.block) elements first.0
+      (root_element (attributes_of diagram) e.number e.block 0) first.1 in
       let least = are.least first.0 e.block block_at (omega arith) in
-      let found = map_there (λ (x : RootElement). x.block) elements (slice_index_or columns e.block 0) e.block (sym (ap (λ (xs : List ℕ). slice_get xs (slice_index_or columns e.block 0)) blocks) ∙ least.0) in
+      let found = map_there (λ (x : RootElement). x.block) elements (slice_index_or columns e.block 0) e.block
+      (sym (ap (λ (xs : List ℕ). slice_get xs (slice_index_or columns e.block 0)) blocks) ∙ least.0) in
       let of_found = all.elements_of (slice_index_or columns e.block 0) found.0 found.1 in
       let same : of_found.0 ≡ of.0 = same_Some of_found.0 of.0 (sym of_found.1 ∙ ap (slice_get diagram.blocks) found.2 ∙ of.1) in
       let number_is : found.0.number ≡ e.number = same_Some found.0.number e.number (sym of_found.2 ∙ ap (number_in number_of) same ∙ of.2) in

@@ -35,7 +35,10 @@ module _ (name : List ℕ) (second : Bool) (path whole : List ℕ) (i : ℕ) (be
       ap (λ (bytes : List ℕ). name ++ map plain_byte bytes) (sym step) ∙ before
 
   -- one that is put
-  pub put_on : (put : ℕ) (named : List ℕ) → undoubled second (get_or path i 0 ∷ drop (i + 1) path) ≡ get_or path i 0 ∷ undoubled false (drop (i + 1) path) → put ≡ plain_byte (get_or path i 0) → named ≡ name ++ put ∷ []
+  pub put_on : (put : ℕ) (named : List ℕ)
+      → undoubled second (get_or path i 0 ∷ drop (i + 1) path)
+      ≡ get_or path i 0 ∷ undoubled false (drop (i + 1) path) → put ≡ plain_byte (get_or path i 0)
+      → named ≡ name ++ put ∷ []
       → named ++ map plain_byte (undoubled false (drop (i + 1) path)) ≡ whole
   put_on put named stays put_is named_is =
       let rest = undoubled false (drop (i + 1) path) in

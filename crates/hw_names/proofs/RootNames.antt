@@ -49,7 +49,9 @@ names_more diagram side old names new earlier now k e name adds at given = recor
 
 -- ---- the elements of columns
 
-pub listed_on : (diagram : Diagram) (side : Side) → IsChecked diagram → InputsAreListed → OutputsAreListed → AreRootElements (number_on side) (width_on side diagram) diagram (attributes_of diagram) (elements_on side diagram)
+pub listed_on : (diagram : Diagram) (side : Side) → IsChecked diagram → InputsAreListed → OutputsAreListed
+    → AreRootElements (number_on side) (width_on side diagram) diagram (attributes_of diagram)
+    (elements_on side diagram)
 listed_on diagram Inputs checked inputs outputs = inputs diagram (attributes_of diagram) checked.wired
 listed_on diagram Outputs checked inputs outputs = outputs diagram (attributes_of diagram) checked.wired
 
@@ -61,10 +63,13 @@ pub record AtColumn (diagram : Diagram) (side : Side) (blocks : List ℕ) (k : �
   pub there : e.block < length diagram.blocks
   pub place : (columns : List ℕ) → AreColumnsFrom blocks columns 0 → slice_index_or columns e.block 0 + e.element ≡ k
 
-pub column_on : (diagram : Diagram) (side : Side) (blocks : List ℕ) (k : ℕ) → IsChecked diagram → InputsAreListed → OutputsAreListed → AreBlocksOf (elements_on side diagram) blocks → k < length blocks → AtColumn diagram side blocks k
+pub column_on : (diagram : Diagram) (side : Side) (blocks : List ℕ) (k : ℕ) → IsChecked diagram → InputsAreListed
+    → OutputsAreListed → AreBlocksOf (elements_on side diagram) blocks → k < length blocks
+    → AtColumn diagram side blocks k
 column_on diagram side blocks k checked inputs outputs are below =
     let listed = listed_on diagram side checked inputs outputs in
-    let found = map_there (λ (x : RootElement). x.block) (elements_on side diagram) k (slice_index_or blocks k 0) (sym (ap (λ (xs : List ℕ). slice_get xs k) are) ∙ slice_get-get_or blocks k 0 below) in
+    let found = map_there (λ (x : RootElement). x.block) (elements_on side diagram) k (slice_index_or blocks k 0)
+    (sym (ap (λ (xs : List ℕ). slice_get xs k) are) ∙ slice_get-get_or blocks k 0 below) in
     let of = listed.elements_of k found.0 found.1 in
     record {
       e = found.0;
@@ -75,15 +80,21 @@ column_on diagram side blocks k checked inputs outputs are below =
     }
 
 -- the place of its element is told by the first column of its block
-pub element_on : (diagram : Diagram) (side : Side) (blocks columns firsts : List ℕ) (k : ℕ) (column : AtColumn diagram side blocks k) → AreColumnsFrom blocks columns 0 → firsts ≡ columns → slice_index_or firsts (slice_index_or blocks k 0) 0 + column.e.element ≡ k
+pub element_on : (diagram : Diagram) (side : Side) (blocks columns firsts : List ℕ) (k : ℕ)
+    (column : AtColumn diagram side blocks k) → AreColumnsFrom blocks columns 0 → firsts ≡ columns
+    → slice_index_or firsts (slice_index_or blocks k 0) 0 + column.e.element ≡ k
 element_on diagram side blocks columns firsts k column are same =
-    subst (λ (block : ℕ). slice_index_or firsts block 0 + column.e.element ≡ k) column.block_is (subst (λ (xs : List ℕ). slice_index_or xs column.e.block 0 + column.e.element ≡ k) (sym same) (column.place columns are))
+    subst (λ (block : ℕ). slice_index_or firsts block 0 + column.e.element ≡ k) column.block_is
+    (subst (λ (xs : List ℕ). slice_index_or xs column.e.block 0 + column.e.element ≡ k) (sym same)
+    (column.place columns are))
 
 pub block_there : (diagram : Diagram) (side : Side) (blocks : List ℕ) (k : ℕ) (column : AtColumn diagram side blocks k) → slice_index_or blocks k 0 < length diagram.blocks
 block_there diagram side blocks k column = subst (λ (block : ℕ). block < length diagram.blocks) column.block_is column.there
 
 -- a name is given to what the element wants
-pub given_to : (diagram : Diagram) (side : Side) (names new : Names) (e : RootElement) (block width element : ℕ) (path name : List ℕ) → e.block ≡ block → path ≡ path_of diagram block → width ≡ width_on side diagram block → element ≡ e.element
+pub given_to : (diagram : Diagram) (side : Side) (names new : Names) (e : RootElement) (block width element : ℕ)
+    (path name : List ℕ) → e.block ≡ block → path ≡ path_of diagram block → width ≡ width_on side diagram block
+    → element ≡ e.element
     → ((list : List (List ℕ)) → AreTaken names list → IsGiven list (port_name (element_name (undoubled false path) width element)) name × AreTaken new (name ∷ list))
     → (list : List (List ℕ)) → AreTaken names list → IsGiven list (wanted_of diagram (width_on side diagram) e) name × AreTaken new (name ∷ list)
 given_to diagram side names new e block width element path name block_is path_is width_is element_is given = λ list are.
@@ -96,12 +107,16 @@ given_to diagram side names new e block width element path name block_is path_is
     subst (λ (w : List ℕ). IsGiven list w name × AreTaken new (name ∷ list)) want (given list are)
 
 -- their blocks are there
-pub there_on : (diagram : Diagram) (side : Side) (blocks : List ℕ) → IsChecked diagram → InputsAreListed → OutputsAreListed → AreBlocksOf (elements_on side diagram) blocks → All (λ block. block < length diagram.blocks) blocks
+pub there_on : (diagram : Diagram) (side : Side) (blocks : List ℕ) → IsChecked diagram → InputsAreListed
+    → OutputsAreListed → AreBlocksOf (elements_on side diagram) blocks
+    → All (λ block. block < length diagram.blocks) blocks
 there_on diagram side blocks checked inputs outputs are = blocks_there (number_on side) (width_on side diagram) diagram (listed_on diagram side checked inputs outputs) blocks are
 
 -- ---- all names
 
-pub all_named : (diagram : Diagram) (list : List (List ℕ)) (old middle new : Names) (none one both : List (List ℕ)) (inputs outputs : ℕ) → AreTaken old list → none ≡ [] → AddsNames diagram Inputs old middle none one inputs → AddsNames diagram Outputs middle new one both outputs
+pub all_named : (diagram : Diagram) (list : List (List ℕ)) (old middle new : Names) (none one both : List (List ℕ))
+    (inputs outputs : ℕ) → AreTaken old list → none ≡ [] → AddsNames diagram Inputs old middle none one inputs
+    → AddsNames diagram Outputs middle new one both outputs
     → inputs ≡ length (elements_on Inputs diagram) → outputs ≡ length (elements_on Outputs diagram) → Given list (wanted_names diagram) both
 all_named diagram list old middle new none one both inputs outputs taken empty first second all_in all_out =
     let ins : List (List ℕ) = wanted_on Inputs diagram in

@@ -52,7 +52,9 @@ module _ (n : ℕ) (span : Span) (width : ℕ) (signed : Bool) (enable from part
         (elim (int_cases (enable c) (pos 0)) [
           | inl off ↦
               let kept = acc.keeps c (omega arith) (goes-on k j l) off in
-              let none : total part (frame_start span k) j +ℤ part c ≡ total part (frame_start span k) j = ap (λ (v : ℤ). total part (frame_start span k) j +ℤ v) (parts.off c off) ∙ +ℤ_idr (total part (frame_start span k) j) in
+              let none : total part (frame_start span k) j +ℤ part c ≡ total part (frame_start span k) j =
+              ap (λ (v : ℤ). total part (frame_start span k) j +ℤ v) (parts.off c off)
+              ∙ +ℤ_idr (total part (frame_start span k) j) in
               subst (λ (v : ℤ). IsWrapped (total part (frame_start span k) j +ℤ part c) width signed v) (sym kept)
               (subst (λ (v : ℤ). IsWrapped v width signed (wave c)) (sym none) before)
           | inr on ↦

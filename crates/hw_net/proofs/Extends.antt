@@ -1,5 +1,6 @@
 -- Netlists with nets behind their own: what stood stands, and no frame gets a second Counter.
-use Rattle.std.proofs.Common.{◌≡◌, ℕ, zero, suc, append-nil, append_assoc, ◌+◌, ◌<◌, ◌≤◌, ◌⊎◌, inl, inr, List, [], ◌∷◌, ◌++◌, length, Option, None, Some, IsSome, slice_get, Bool, true, false, if◌then◌else◌, ap, sym, ◌∙◌, arith, refl, length-append, get_or}
+use Rattle.std.proofs.Common.{◌≡◌, ℕ, zero, suc, append-nil, append_assoc, ◌+◌, ◌<◌, ◌≤◌, ◌⊎◌, inl, inr, List, [], ◌∷◌, ◌++◌, length, Option, None, Some, IsSome, slice_get, Bool, true, false}
+use Rattle.std.proofs.Common.{if◌then◌else◌, ap, sym, ◌∙◌, arith, refl, length-append, get_or}
 use Rattle.std.proofs.lemmas.Option.{none-some, same_Some, slice_get_within, slice_get_read}
 use Rattle.math_list.proofs.Places.{get_front as front-of, get_left as front-some, get_left}
 use Rattle.hw_net.specs.declared.netlist.Frame.{Frame}

@@ -1,5 +1,6 @@
 -- What is said of a netlist is carried along as it grows.
-pub use Rattle.hw_net.proofs.Extends.{count-append, extends-self, extends-trans, extends-one, longer, one-longer, still-there, stood-there, word-stays, counter-front, counter-stays, is-counter-stays, differ-more, differ-other, differ-counter}
+pub use Rattle.hw_net.proofs.Extends.{count-append, extends-self, extends-trans, extends-one, longer, one-longer, still-there, stood-there, word-stays, counter-front, counter-stays, is-counter-stays}
+pub use Rattle.hw_net.proofs.Extends.{differ-more, differ-other, differ-counter}
 use Rattle.math_list.proofs.Places.{last_at, get_front, split-last, held as at-place}
 use Rattle.std.proofs.Common.{◌≡◌, ℕ, ◌<◌, ◌≤◌, ◌⊎◌, inl, inr, List, [], ◌∷◌, ◌++◌, length, All, Contains, Option, None, Some, slice_get, slice_index_or, Bool, ap, sym, ◌∙◌, subst, arith, refl}
 use Rattle.std.proofs.lemmas.Bool.{cases_lt}
@@ -130,7 +131,9 @@ kind-stays a b cycles inputs width signed (Unit left right) p there has = record
 kind-stays a b cycles inputs width signed (Counter frame) p there has = has
 
 -- what may be read as named, appended or a Counter may be so in a longer netlist
-still-read : (b c : Circuit) (named : List ℕ) (Appended : Type 0) (read : ℕ) → Extends b c → Contains named read ⊎ Appended ⊎ IsCounter b.nets read → Contains named read ⊎ Appended ⊎ IsCounter c.nets read
+still-read : (b c : Circuit) (named : List ℕ) (Appended : Type 0) (read : ℕ) → Extends b c
+    → Contains named read ⊎ Appended ⊎ IsCounter b.nets read
+    → Contains named read ⊎ Appended ⊎ IsCounter c.nets read
 still-read b c named Appended read p may =
     elim may [
       | inl names ↦ inl names
@@ -156,7 +159,9 @@ abbrev pub IsNamed : Circuit → Circuit → List ℕ → ℕ → Type 0
 IsNamed a b named read = Contains named read ⊎ ((length a.nets ≤ read) × (read < length b.nets))
 
 -- what a second call may read, the two may
-wider-read : (a b : Circuit) (named more : List ℕ) (nets : List Net) (Later Own : Type 0) (read : ℕ) → (Contains more read → IsNamed a b named read) → ((length a.nets ≤ read) × (read < length b.nets) → Own) → (Later → Own)
+wider-read : (a b : Circuit) (named more : List ℕ) (nets : List Net) (Later Own : Type 0) (read : ℕ)
+    → (Contains more read → IsNamed a b named read) → ((length a.nets ≤ read) × (read < length b.nets) → Own)
+    → (Later → Own)
     → Contains more read ⊎ Later ⊎ IsCounter nets read → Contains named read ⊎ Own ⊎ IsCounter nets read
 wider-read a b named more nets Later Own read wider early late may =
     elim may [

@@ -1,5 +1,6 @@
 -- The index of Counters, as nets and ports are put in.
-use Rattle.std.proofs.Common.{◌≡◌, ℕ, zero, suc, Result, Ok, Err, IfOk, OnOk, take, drop, slice_index_or, length-set, IsSome, subst, slice_get, set, ◌+◌, ◌==◌, nat_lt, List, [], ◌∷◌, ◌++◌, length, Option, None, Some, Bool, true, false, refl, if◌then◌else◌, ap, sym, ◌∙◌, arith}
+use Rattle.std.proofs.Common.{◌≡◌, ℕ, zero, suc, Result, Ok, Err, IfOk, OnOk, take, drop, slice_index_or, length-set, IsSome, subst, slice_get, set, ◌+◌, ◌==◌, nat_lt, List, [], ◌∷◌, ◌++◌, length}
+use Rattle.std.proofs.Common.{Option, None, Some, Bool, true, false, refl, if◌then◌else◌, ap, sym, ◌∙◌, arith}
 use Rattle.std.proofs.lemmas.Bool.{eqb-true, eqb-false, and_parts, and_from}
 use Rattle.std.specs.Ordering.{nat_cmp, is_eq}
 use Rattle.std.specs.Cmp.{tied_then}
@@ -46,12 +47,16 @@ own_number net number frame = if is_frame frame (counted_frame net.kind) then So
 counter-one : (net : Net) (start : ℕ) (frame : Frame) → counter_from (net ∷ []) start frame ≡ own_number net start frame
 counter-one net start frame = refl
 
-counter-behind : (nets : List Net) (net : Net) (start : ℕ) (frame : Frame) → counter_from (nets ++ net ∷ []) start frame ≡ or_else (counter_from nets start frame) (own_number net (start + length nets) frame)
+counter-behind : (nets : List Net) (net : Net) (start : ℕ) (frame : Frame)
+    → counter_from (nets ++ net ∷ []) start frame
+    ≡ or_else (counter_from nets start frame) (own_number net (start + length nets) frame)
 counter-behind [] net start frame = ap (λ (k : ℕ). own_number net k frame) (omega arith)
 counter-behind (one ∷ nets) net start frame = by (is_frame frame (counted_frame one.kind)) (counter-behind nets net (start + 1) frame)
   where
     by : (is : Bool) → counter_from (nets ++ net ∷ []) (start + 1) frame ≡ or_else (counter_from nets (start + 1) frame) (own_number net (start + 1 + length nets) frame)
-        → (if is then Some start else counter_from (nets ++ net ∷ []) (start + 1) frame) ≡ or_else (if is then Some start else counter_from nets (start + 1) frame) (own_number net (start + suc (length nets)) frame)
+        → (if is then Some start else counter_from (nets ++ net ∷ []) (start + 1) frame)
+        ≡ or_else (if is then Some start else counter_from nets (start + 1) frame)
+        (own_number net (start + suc (length nets)) frame)
     by true rest = refl
     by false rest =
         let e : start + 1 + length nets ≡ start + suc (length nets) = omega arith in
@@ -96,7 +101,9 @@ module _ (nets : List Net) (entries : List (Frame × ℕ)) (net : Net) (index : 
           ∙ sym (behind frame ∙ ap (or_else (counter_of nets frame)) (adds frame));
     }
       where
-        by : (frame : Frame) (is : Bool) → is_same_frame own frame ≡ is → (if is then Some (length nets) else number_at_frame entries frame) ≡ or_else (counter_of nets frame) (if is then Some (length nets) else None)
+        by : (frame : Frame) (is : Bool) → is_same_frame own frame ≡ is
+            → (if is then Some (length nets) else number_at_frame entries frame)
+            ≡ or_else (counter_of nets frame) (if is then Some (length nets) else None)
         by frame true e =
             let none : counter_of nets frame ≡ None = sym (index.each frame) ∙ ap (number_at_frame entries) (sym (same-is own frame e)) ∙ absent in
             rw none refl
@@ -111,7 +118,9 @@ module _ (nets : List Net) (entries : List (Frame × ℕ)) (net : Net) (index : 
       go (Some own) counts known = index-known own counts (subst IsSome (index.each own) known)
 
 -- a net in place of one that counts the same
-pub counter-set : (nets : List Net) (k start : ℕ) (was is : Net) (frame : Frame) → slice_get nets k ≡ Some was → counted_frame is.kind ≡ counted_frame was.kind → counter_from (set nets k is) start frame ≡ counter_from nets start frame
+pub counter-set : (nets : List Net) (k start : ℕ) (was is : Net) (frame : Frame) → slice_get nets k ≡ Some was
+    → counted_frame is.kind ≡ counted_frame was.kind
+    → counter_from (set nets k is) start frame ≡ counter_from nets start frame
 counter-set [] k start was is frame there same = refl
 counter-set (net ∷ nets) zero start was is frame there same =
     let e : net ≡ was = same_Some net was there in
@@ -155,7 +164,12 @@ pub in-place : (inside now : List Net) (number : ℕ) (default net : Net) (kind 
     ≡ set inside number (record net { kind = kind })
 in-place inside now number default net kind same there =
     let one : slice_index_or inside number default ≡ net = get_or_from_slice_get inside number net default there in
-    let e : set now number (record { signed = (slice_index_or now number default).signed; width = (slice_index_or now number default).width; kind = kind }) ≡ set inside number (record net { kind = kind }) =
+    let e : set now number (record {
+      signed = (slice_index_or now number default).signed;
+      width =
+          (slice_index_or now number default).width;
+      kind = kind;
+    }) ≡ set inside number (record net { kind = kind }) =
     ap (λ (xs : List Net). set xs number (record { signed = (slice_index_or xs number default).signed; width = (slice_index_or xs number default).width; kind = kind })) same
     ∙ ap (λ (x : Net). set inside number (record { signed = x.signed; width = x.width; kind = kind })) one in
     ap (refill (length inside) inside) e ∙ refilled inside (set inside number (record net { kind = kind })) (length-set inside number (record net { kind = kind }))

@@ -1,5 +1,6 @@
 -- Rows that go on from clock to clock are the rows of the netlist.
-use Rattle.std.proofs.Common.{◌≡◌, ◌≢◌, ℕ, zero, suc, ◌+◌, ◌-◌, ◌*◌, ◌/◌, ◌%◌, ◌<◌, ◌≤◌, ◌^◌, Bool, List, All, Option, None, Some, slice_get, inl, inr, ℤ, pos, negsuc, ◌<ℤ◌, ◌≤ℤ◌, ◌*ℤ◌, length, ap, ◌∙◌, subst, arith, refl}
+use Rattle.std.proofs.Common.{◌≡◌, ◌≢◌, ℕ, zero, suc, ◌+◌, ◌-◌, ◌*◌, ◌/◌, ◌%◌, ◌<◌, ◌≤◌, ◌^◌, Bool, List, All, Option, None, Some, slice_get, inl, inr, ℤ, pos, negsuc, ◌<ℤ◌, ◌≤ℤ◌, ◌*ℤ◌, length, ap}
+use Rattle.std.proofs.Common.{◌∙◌, subst, arith, refl}
 use Rattle.std.proofs.lemmas.Int.{ints}
 use Rattle.std.proofs.lemmas.Nat.{mul-lt, div-add-mod', mod-mul-add}
 use Rattle.std.proofs.lemmas.Bool.{cases_lt}
@@ -88,7 +89,8 @@ module _ (n : ℕ) (span : Span) (wave : Wave) (begins : 0 < n → wave 0 ≡ po
   }
 
 -- a cut product of numbers of two nets is their product, where the word holds it
-exact-product : (nets : List Net) (row : Row) (left right width : ℕ) (signed : Bool) (v : ℤ) → IsWord width signed → HoldsProducts nets left right width signed → left < length nets → right < length nets
+exact-product : (nets : List Net) (row : Row) (left right width : ℕ) (signed : Bool) (v : ℤ) → IsWord width signed
+    → HoldsProducts nets left right width signed → left < length nets → right < length nets
     → InWordAt nets row left → InWordAt nets row right → IsWrapped (row left *ℤ row right) width signed v → v ≡ row left *ℤ row right
 exact-product nets row left right width signed v word holds one other p q is = by (slice_get nets left) refl (slice_get nets right) refl
   where
@@ -157,6 +159,8 @@ steps-give-rows netlist n inputs rows well goes = record {
         let e : suc c ≡ c + 1 = omega arith in
         let f : suc c - 1 ≡ c = omega arith in
         let below : suc c < n = omega arith in
-        let there : NetSteps netlist.cycles c (λ number. inputs number (suc c)) (λ net. rows net (suc c - 1)) (λ net. rows net (suc c)) net.width net.signed net.kind (rows k (suc c - 1)) (rows k (suc c)) = (goes (suc c) below).each k net is in
+        let there : NetSteps netlist.cycles c (λ number. inputs number (suc c)) (λ net. rows net (suc c - 1))
+        (λ net. rows net (suc c)) net.width net.signed net.kind (rows k (suc c - 1)) (rows k (suc c)) =
+        (goes (suc c) below).each k net is in
         subst (λ (x : ℕ). NetSteps netlist.cycles c (λ number. inputs number x) (λ net. rows net c) (λ net. rows net x) net.width net.signed net.kind (rows k c) (rows k x)) e
         (subst (λ (x : ℕ). NetSteps netlist.cycles c (λ number. inputs number (suc c)) (λ net. rows net x) (λ net. rows net (suc c)) net.width net.signed net.kind (rows k x) (rows k (suc c))) f there)

@@ -1,5 +1,6 @@
 -- Numbers stay in their nets' words, and their bits below a place and above.
-use Rattle.std.proofs.Common.{◌≡◌, ◌≢◌, ℕ, zero, suc, ◌+◌, ◌-◌, ◌*◌, ◌/◌, ◌%◌, ◌<◌, ◌⊎◌, inl, inr, Bool, true, false, List, length, Some, slice_get, slice_index_or, All, ℤ, pos, negsuc, ◌<ℤ◌, ◌≤ℤ◌, arith, refl, ap, sym, ◌^◌, ◌∙◌, pow_pos}
+use Rattle.std.proofs.Common.{◌≡◌, ◌≢◌, ℕ, zero, suc, ◌+◌, ◌-◌, ◌*◌, ◌/◌, ◌%◌, ◌<◌, ◌⊎◌, inl, inr, Bool, true, false, List, length, Some, slice_get, slice_index_or, All, ℤ, pos, negsuc, ◌<ℤ◌, ◌≤ℤ◌}
+use Rattle.std.proofs.Common.{arith, refl, ap, sym, ◌^◌, ◌∙◌, pow_pos}
 use Rattle.std.proofs.lemmas.Int.{ints}
 use Rattle.std.proofs.lemmas.Bool.{cases_lt, cases_eq}
 use Rattle.std.proofs.lemmas.Nat.{pow-add, mod_below, mod-pow-add}
@@ -149,7 +150,10 @@ split-low k v (pos n) = mod-pow-add n k v
 split-low k v (negsuc n) =
     let high : ℕ = n / 2 ^ v % 2 ^ k in
     let e : 2 ^ (k + v) ≡ 2 ^ k * 2 ^ v = pow-add 2 k v in
-    let a : (2 ^ k - 1 - high) * 2 ^ v + high * 2 ^ v ≡ (2 ^ k - 1) * 2 ^ v = sym (add-mul (2 ^ k - 1 - high) high (2 ^ v)) ∙ ap (λ (i : ℕ). i * 2 ^ v) (let below : high < 2 ^ k = mod_below (n / 2 ^ v) (2 ^ k) (pow_pos k) in omega arith) in
+    let a : (2 ^ k - 1 - high) * 2 ^ v + high * 2 ^ v ≡ (2 ^ k - 1) * 2 ^ v =
+    sym (add-mul (2 ^ k - 1 - high) high (2 ^ v))
+    ∙ ap (λ (i : ℕ). i * 2 ^ v)
+    (let below : high < 2 ^ k = mod_below (n / 2 ^ v) (2 ^ k) (pow_pos k) in omega arith) in
     let b : (2 ^ k - 1) * 2 ^ v + 1 * 2 ^ v ≡ 2 ^ k * 2 ^ v = sym (add-mul (2 ^ k - 1) 1 (2 ^ v)) ∙ ap (λ (i : ℕ). i * 2 ^ v) (let some : 0 < 2 ^ k = pow_pos k in omega arith) in
     let c : n % 2 ^ (k + v) ≡ high * 2 ^ v + n % 2 ^ v = mod-pow-add n k v in
     let d : n % 2 ^ v < 2 ^ v = mod_below n (2 ^ v) (pow_pos v) in

@@ -1,5 +1,6 @@
 -- There are rows of every netlist that can be run.
-use Rattle.std.proofs.Common.{◌≡◌, ◌≢◌, ℕ, zero, suc, ◌+◌, ◌-◌, ◌*◌, ◌/◌, ◌^◌, ◌<◌, ◌≤◌, ◌⊎◌, inl, inr, Bool, true, false, if◌then◌else◌, Option, None, Some, slice_get, slice_index_or, ℤ, pos, negsuc, ◌<ℤ◌, ◌≤ℤ◌, ◌+ℤ◌, ◌-ℤ◌, ◌*ℤ◌, ap, subst, arith, refl, pow_pos, mod-lt}
+use Rattle.std.proofs.Common.{◌≡◌, ◌≢◌, ℕ, zero, suc, ◌+◌, ◌-◌, ◌*◌, ◌/◌, ◌^◌, ◌<◌, ◌≤◌, ◌⊎◌, inl, inr, Bool, true, false, if◌then◌else◌, Option, None, Some, slice_get, slice_index_or, ℤ, pos, negsuc}
+use Rattle.std.proofs.Common.{◌<ℤ◌, ◌≤ℤ◌, ◌+ℤ◌, ◌-ℤ◌, ◌*ℤ◌, ap, subst, arith, refl, pow_pos, mod-lt}
 use Rattle.std.proofs.lemmas.Int.{ints}
 use Rattle.std.proofs.lemmas.Nat.{div-add-mod'}
 use Rattle.std.proofs.lemmas.Bool.{cases_lt}
@@ -95,7 +96,8 @@ abbrev gone : ℕ → ℕ → Row → Row → Row → ℕ → Bool → NetKind �
 gone cycles zero inputs now next width signed kind old = started cycles inputs next width signed kind
 gone cycles (suc clock) inputs now next width signed kind old = stepped cycles clock inputs now next width signed kind old
 
-starts : (cycles : ℕ) (inputs row : Row) (width : ℕ) (signed : Bool) (kind : NetKind) → IsWord width signed → NetStarts cycles inputs row width signed kind (started cycles inputs row width signed kind)
+starts : (cycles : ℕ) (inputs row : Row) (width : ℕ) (signed : Bool) (kind : NetKind) → IsWord width signed
+    → NetStarts cycles inputs row width signed kind (started cycles inputs row width signed kind)
 starts cycles inputs row width signed (Comb op args) word = is-wrapped width signed (given_by op inputs (operands_at row args)) word
 starts cycles inputs row width signed (Reg frame slot first from) word = refl
 starts cycles inputs row width signed (EnReg frame enable reset first from) word = refl
@@ -107,11 +109,34 @@ reg-steps : (span : Span) (slot clock : ℕ) (from now : ℤ) (is : Takes span s
 reg-steps span slot clock from now (inl t) = record { takes = λ _. refl; keeps = λ not. absurd (not t) }
 reg-steps span slot clock from now (inr t) = record { takes = λ is. absurd (t is); keeps = λ _. refl }
 
-enabled-steps : (span : Span) (reset : Bool) (first : ℤ) (clock : ℕ) (enable from now : ℤ) (is : Takes span (span.length - 1) clock ⊎ (¬ Takes span (span.length - 1) clock)) (off : (enable ≡ pos 0) ⊎ (enable ≢ pos 0))
+enabled-steps : (span : Span) (reset : Bool) (first : ℤ) (clock : ℕ) (enable from now : ℤ)
+    (is : Takes span (span.length - 1) clock ⊎ (¬ Takes span (span.length - 1) clock))
+    (off : (enable ≡ pos 0) ⊎ (enable ≢ pos 0))
     → EnRegSteps span reset first clock enable from now (pick is (pick off (if reset then first else now) from) now)
-enabled-steps span true first clock enable from now (inl t) (inl off) = record { takes = λ _ on. absurd (on off); resets = λ _ _ _. refl; stays = λ _ _ e. absurd (let f : true ≡ false = e in cc); keeps = λ not. absurd (not t) }
-enabled-steps span false first clock enable from now (inl t) (inl off) = record { takes = λ _ on. absurd (on off); resets = λ _ _ e. absurd (let f : false ≡ true = e in cc); stays = λ _ _ _. refl; keeps = λ not. absurd (not t) }
-enabled-steps span reset first clock enable from now (inl t) (inr on) = record { takes = λ _ _. refl; resets = λ _ off. absurd (on off); stays = λ _ off. absurd (on off); keeps = λ not. absurd (not t) }
+enabled-steps span true first clock enable from now (inl t) (inl off) =
+    record {
+      takes = λ _ on. absurd (on off);
+      resets =
+          λ _ _ _. refl;
+      stays = λ _ _ e. absurd (let f : true ≡ false = e in cc);
+      keeps = λ not. absurd (not t);
+    }
+enabled-steps span false first clock enable from now (inl t) (inl off) =
+    record {
+      takes = λ _ on. absurd (on off);
+      resets =
+          λ _ _ e. absurd (let f : false ≡ true = e in cc);
+      stays = λ _ _ _. refl;
+      keeps = λ not. absurd (not t);
+    }
+enabled-steps span reset first clock enable from now (inl t) (inr on) =
+    record {
+      takes = λ _ _. refl;
+      resets =
+          λ _ off. absurd (on off);
+      stays = λ _ off. absurd (on off);
+      keeps = λ not. absurd (not t);
+    }
 enabled-steps span reset first clock enable from now (inr t) off = record { takes = λ is. absurd (t is); resets = λ is. absurd (t is); stays = λ is. absurd (t is); keeps = λ _. refl }
 
 bridge-steps : (span : Span) (live clock : ℕ) (from now : ℤ) (is : IsLive span live clock ⊎ (¬ IsLive span live clock)) → BridgeSteps span live clock from now (pick is from now)
@@ -128,7 +153,9 @@ steps cycles clock inputs now next width signed (Comb op args) old word = is-wra
 steps cycles clock inputs now next width signed (Reg frame slot first from) old word = reg-steps (span_of cycles frame) slot clock (now from) old (takes-or-not (span_of cycles frame) slot clock)
 steps cycles clock inputs now next width signed (EnReg frame enable reset first from) old word =
     enabled-steps (span_of cycles frame) reset first clock (now enable) (now from) old (takes-or-not (span_of cycles frame) ((span_of cycles frame).length - 1) clock) (zero-or-not (now enable))
-steps cycles clock inputs now next width signed (Bridge frame live from) old word = bridge-steps (span_of cycles frame) (live * cycles) (clock + 1) (next from) old (lives-or-not (span_of cycles frame) (live * cycles) (clock + 1))
+steps cycles clock inputs now next width signed (Bridge frame live from) old word =
+    bridge-steps (span_of cycles frame) (live * cycles) (clock + 1) (next from) old
+    (lives-or-not (span_of cycles frame) (live * cycles) (clock + 1))
 steps cycles clock inputs now next width signed (Unit left right) old word = is-wrapped width signed (next left *ℤ next right) word
 steps cycles clock inputs now next width signed (Counter frame) old word = counter-steps (span_of cycles frame) old (some-or-none old)
 
@@ -138,7 +165,9 @@ goes-gone cycles zero inputs now next width signed kind old word = starts cycles
 goes-gone cycles (suc clock) inputs now next width signed kind old word = steps cycles clock inputs now next width signed kind old word
 
 -- it looks only at the nets that a net reads in the same clock
-started-same : (row other : Row) (cycles : ℕ) (inputs : Row) (width : ℕ) (signed : Bool) (kind : NetKind) → Agree row other (reads_now kind) → started cycles inputs row width signed kind ≡ started cycles inputs other width signed kind
+started-same : (row other : Row) (cycles : ℕ) (inputs : Row) (width : ℕ) (signed : Bool) (kind : NetKind)
+    → Agree row other (reads_now kind) → started cycles inputs row width signed kind
+    ≡ started cycles inputs other width signed kind
 started-same row other cycles inputs width signed (Comb op args) agree = ap (λ of. wrapped width signed (given_by op inputs of)) (same-operands row other args agree)
 started-same row other cycles inputs width signed (Reg frame slot first from) agree = refl
 started-same row other cycles inputs width signed (EnReg frame enable reset first from) agree = refl
@@ -178,10 +207,13 @@ number_within netlist clock inputs now (suc fuel) k = found_number netlist clock
 
 module _ (netlist : Circuit) (well : IsNetlist netlist) where
   -- past the rank of the net the depth has no say
-  stable : (clock : ℕ) (inputs now : Row) (fuel more k : ℕ) → well.ranked.0 k < fuel → well.ranked.0 k < more → number_within netlist clock inputs now fuel k ≡ number_within netlist clock inputs now more k
+  stable : (clock : ℕ) (inputs now : Row) (fuel more k : ℕ) → well.ranked.0 k < fuel → well.ranked.0 k < more
+      → number_within netlist clock inputs now fuel k ≡ number_within netlist clock inputs now more k
   stable clock inputs now zero more k less also = absurd (omega arith)
   stable clock inputs now (suc fuel) zero k less also = absurd (omega arith)
-  stable clock inputs now (suc fuel) (suc more) k less also = by (λ read below. stable clock inputs now fuel more read (omega (arith, below, less)) (omega (arith, below, also))) (slice_get netlist.nets k) refl
+  stable clock inputs now (suc fuel) (suc more) k less also =
+      by (λ read below. stable clock inputs now fuel more read (omega (arith, below, less))
+      (omega (arith, below, also))) (slice_get netlist.nets k) refl
     where
       by : ((read : ℕ) → well.ranked.0 read < well.ranked.0 k → number_within netlist clock inputs now fuel read ≡ number_within netlist clock inputs now more read)
           → (found : Option Net) → slice_get netlist.nets k ≡ found
@@ -201,7 +233,8 @@ module _ (netlist : Circuit) (well : IsNetlist netlist) where
         let word = held (λ (one : Net). IsWord one.width one.signed) netlist.nets k net well.words there in
         let goes = goes-gone netlist.cycles clock inputs now given net.width net.signed net.kind (now k) word in
         let is : row_after clock inputs now k ≡ gone netlist.cycles clock inputs now given net.width net.signed net.kind (now k) = ap (found_number netlist clock inputs now k given) there in
-        rw is (goes-same given (row_after clock inputs now) netlist.cycles clock inputs now net.width net.signed net.kind (now k) (gone netlist.cycles clock inputs now given net.width net.signed net.kind (now k))
+        rw is (goes-same given (row_after clock inputs now) netlist.cycles clock inputs now net.width net.signed
+        net.kind (now k) (gone netlist.cycles clock inputs now given net.width net.signed net.kind (now k))
         (λ i d within.
         let read : ℕ = slice_index_or (reads_now net.kind) i d in
         stable clock inputs now (well.ranked.0 k) (suc (well.ranked.0 read)) read (well.ranked.1.falls k net there i d within) (omega arith))

@@ -1,5 +1,6 @@
 -- An order that grows by one net.
-use Rattle.std.proofs.Common.{map, eqb, ◌≡◌, ◌≢◌, ℕ, zero, suc, ◌+◌, ◌<◌, ◌≤◌, ◌⊎◌, inl, inr, List, [], ◌∷◌, ◌++◌, length, Option, None, Some, IsSome, is_some, true, false, slice_get, slice_index, slice_index_or, get_or, set, All, ap, sym, ◌∙◌, subst, arith, refl, length-append, length-set}
+use Rattle.std.proofs.Common.{map, eqb, ◌≡◌, ◌≢◌, ℕ, zero, suc, ◌+◌, ◌<◌, ◌≤◌, ◌⊎◌, inl, inr, List, [], ◌∷◌, ◌++◌, length, Option, None, Some, IsSome, is_some, true, false, slice_get, slice_index}
+use Rattle.std.proofs.Common.{slice_index_or, get_or, set, All, ap, sym, ◌∙◌, subst, arith, refl, length-append, length-set}
 use Rattle.std.specs.List.{list_any}
 use Rattle.std.proofs.lemmas.Bool.{cases_lt, cases_eq, eq-eqb}
 use Rattle.std.proofs.lemmas.List.Elements.{All-cons, All-tail}
@@ -167,14 +168,18 @@ any-last ranks done (x ∷ reads) all =
     ]
 
 -- two stages of one order
-module _ (nets : List Net) (order next : List ℕ) (ranks later : List (Option ℕ)) (growing : IsGrowing nets order ranks) (grown : IsGrowing nets next later) (longer : IsLonger order next) (keeps : Keeps ranks later) where
+module _ (nets : List Net) (order next : List ℕ) (ranks later : List (Option ℕ))
+    (growing : IsGrowing nets order ranks) (grown : IsGrowing nets next later) (longer : IsLonger order next)
+    (keeps : Keeps ranks later) where
   -- what stands among the first of the order stood there before
   stood : (read rank : ℕ) → rank < length order → place_of later read ≡ Some rank → place_of ranks read ≡ Some rank
   stood read rank h is =
       let e : slice_index order rank ≡ read = sym (longer.each rank h) ∙ (grown.each read rank is).1 in
       ap (place_of ranks) (sym e) ∙ growing.at rank h
 
-  all-stood : (done : ℕ) (reads : List ℕ) → done ≤ length order → All (λ read. (rank : ℕ) × (place_of later read ≡ Some rank) × (rank < done)) reads → All (λ read. (rank : ℕ) × (place_of ranks read ≡ Some rank) × (rank < done)) reads
+  all-stood : (done : ℕ) (reads : List ℕ) → done ≤ length order
+      → All (λ read. (rank : ℕ) × (place_of later read ≡ Some rank) × (rank < done)) reads
+      → All (λ read. (rank : ℕ) × (place_of ranks read ≡ Some rank) × (rank < done)) reads
   all-stood done reads h all n d within =
       let one = all n d within in
       (one.0, stood (slice_index_or reads n d) one.0 (omega (arith, one.2)) one.1, one.2)
@@ -269,7 +274,11 @@ all-ranked nets order ranks growing all = (
     some-place (Some rank) e some = record { rank = rank; is = e }
 
 pub serves-on : (nets : List Net) (before now after : List (Option ℕ)) (k : ℕ) → Keeps before now → Serves nets now after k → Serves nets before after k
-serves-on nets before now after k keeps serves = record { placed = λ net there reads. serves.placed net there (λ n d within. still-placed before now (slice_index_or (reads_now net.kind) n d) keeps (reads n d within)) }
+serves-on nets before now after k keeps serves =
+    record {
+      placed = λ net there reads. serves.placed net there
+          (λ n d within. still-placed before now (slice_index_or (reads_now net.kind) n d) keeps (reads n d within));
+    }
 
 pub serves-still : (nets : List Net) (before now after : List (Option ℕ)) (k : ℕ) → Keeps now after → Serves nets before now k → Serves nets before after k
 serves-still nets before now after k keeps serves = record { placed = λ net there reads. still-placed now after k keeps (serves.placed net there reads) }

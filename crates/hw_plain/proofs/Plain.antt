@@ -128,7 +128,9 @@ none-counted plan none path = ap (λ (lines : List Pipeline). count_of (record p
 bare : (diagram : Diagram) (plan : Plan) (resolved : Resolved) → IsPlain plan → IsResolved diagram plan resolved → IsBare resolved
 bare diagram plan resolved plain numbers = record {
   unshared = numbers.multipliers ∙ plain.unshared;
-  stages = λ place. ap (λ (stages : List ℕ). slice_index stages place) numbers.stages ∙ zeros (λ (block : Block). count_of plan block.path) (λ block. none-counted plan plain.unpipelined block.path) diagram.blocks place;
+  stages = λ place. ap (λ (stages : List ℕ). slice_index stages place) numbers.stages
+      ∙ zeros (λ (block : Block). count_of plan block.path)
+      (λ block. none-counted plan plain.unpipelined block.path) diagram.blocks place;
 }
 
 module _ (above : PeriodsAreAbove) (joins : EdgesJoinPeriods) (unfed : UnfedAreReady) (diagram : Diagram) (checked : IsChecked diagram) (plan : Resolved) (is_bare : IsBare plan) where
@@ -156,7 +158,8 @@ module _ (above : PeriodsAreAbove) (joins : EdgesJoinPeriods) (unfed : UnfedAreR
   -- ---- nothing is late
 
   module _ (fed : List Bool) (are : AreFed diagram A plan fed) where
-    keeps-into : (edge : LatencyEdge) (number period : ℕ) → slice_get (latency_edges diagram) number ≡ Some edge → A.period_at edge.from ≡ Some period → (o : Option Block) → slice_get diagram.blocks edge.to ≡ o
+    keeps-into : (edge : LatencyEdge) (number period : ℕ) → slice_get (latency_edges diagram) number ≡ Some edge
+        → A.period_at edge.from ≡ Some period → (o : Option Block) → slice_get diagram.blocks edge.to ≡ o
         → KeepsArc [] (arc_into edge.from edge.to (is_marked fed edge.from) (stages_at plan edge.from) period (samples (A.period_at edge.to)) o)
     keeps-into edge number period at is None there counts = absurd (false≢true counts)
     keeps-into edge number period at is (Some block) there counts =
@@ -169,7 +172,9 @@ module _ (above : PeriodsAreAbove) (joins : EdgesJoinPeriods) (unfed : UnfedAreR
         let all = subst (λ (own : Option ℕ). Asks (is_marked fed edge.from) (stages_at plan edge.from) (samples own)) (sym join.1.period) fed_one in
         omega (arith, all)
 
-    keeps-from : (edge : LatencyEdge) (number : ℕ) → slice_get (latency_edges diagram) number ≡ Some edge → (period : Option ℕ) → A.period_at edge.from ≡ period → KeepsArc [] (arc_from diagram A plan fed edge.from edge.to period)
+    keeps-from : (edge : LatencyEdge) (number : ℕ) → slice_get (latency_edges diagram) number ≡ Some edge
+        → (period : Option ℕ) → A.period_at edge.from ≡ period
+        → KeepsArc [] (arc_from diagram A plan fed edge.from edge.to period)
     keeps-from edge number at None is counts = absurd (false≢true counts)
     keeps-from edge number at (Some period) is counts = keeps-into edge number period at is (slice_get diagram.blocks edge.to) refl counts
 
@@ -219,7 +224,9 @@ module _ (above : PeriodsAreAbove) (joins : EdgesJoinPeriods) (unfed : UnfedAreR
 
   need-start : (timing : Timing) (period : ℕ) → need_of diagram A plan timing period ≡ start_of diagram A plan period
   need-start timing period =
-      ap (λ (operations : List Operation). base_slot diagram A plan timing period (greatest (map (λ o. if samples (A.period_at o.block) == period then suc (level_of timing o) else 0) operations))) none-operates ∙ omega arith
+      ap (λ (operations : List Operation). base_slot diagram A plan timing period
+      (greatest (map (λ o. if samples (A.period_at o.block) == period then suc (level_of timing o) else 0)
+      operations))) none-operates ∙ omega arith
 
   keeps-budget : 1 ≤ plan.cycles → (timing : Timing) (period : ℕ) → 0 < period → need_of diagram A plan timing period ≤ have_of plan period
   keeps-budget clocks timing period some =
@@ -242,7 +249,8 @@ module _ (above : PeriodsAreAbove) (joins : EdgesJoinPeriods) (unfed : UnfedAreR
 
   none-greatest : (timing : Timing) → IsTimingOf diagram plan timing → greatest_latency diagram A plan timing ≡ 0
   none-greatest timing timed =
-      let low = greatest-within (λ (e : RootElement). declared_latency diagram A plan timing e.block) 0 (λ e. let none = none-declared timing timed e.block in omega (arith, none)) (root_outputs diagram A) in
+      let low = greatest-within (λ (e : RootElement). declared_latency diagram A plan timing e.block) 0
+      (λ e. let none = none-declared timing timed e.block in omega (arith, none)) (root_outputs diagram A) in
       omega (arith, low)
 
   breaks-storage : (own : Plan) (fault : RuleFault) → IsFoundIn diagram own plan → BreaksSizeFirst diagram plan fault → BreaksStorage diagram own fault
@@ -263,7 +271,9 @@ at-once above joins unfed diagram plan resolved timing checked plain found timed
 
 pub break-storage : CyclesLeaveNone → PeriodsAreAbove → EdgesJoinPeriods → UnfedAreReady → PlainPlansBreakStorage
 break-storage leaves above joins unfed diagram plan fault checked plain clocks broken = ⊎_elim
-    (λ (missing : BreaksPlan diagram (attributes_of diagram) plan fault). absurd (none-some missing.line (ap (λ (lines : List Pipeline). slice_get lines missing.number) (sym plain.unpipelined) ∙ missing.line_is)))
+    (λ (missing : BreaksPlan diagram (attributes_of diagram) plan fault). absurd
+    (none-some missing.line (ap (λ (lines : List Pipeline). slice_get lines missing.number)
+    (sym plain.unpipelined) ∙ missing.line_is)))
     (λ (times : BreaksTimesOf diagram plan fault).
     let is_bare = bare diagram plan times.resolved plain times.found.numbers in
     let some : 1 ≤ times.resolved.cycles = (let same = times.found.numbers.cycles in omega (arith, same, clocks)) in

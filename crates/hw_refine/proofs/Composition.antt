@@ -46,7 +46,9 @@ itself netlist = record {
     before = rows;
     are = are;
     outputs = zip-same (λ (was is : NetPort). Agree n rows rows was.net is.net) (λ port. agree-own n rows port.net) netlist.outputs;
-    factors = zip-same (λ (was is : Product). Agree n rows rows was.left is.left × Agree n rows rows was.right is.right) (λ p. (agree-own n rows p.left, agree-own n rows p.right)) (products_of netlist);
+    factors = zip-same (λ (was is : Product). Agree n rows rows was.left is.left
+        × Agree n rows rows was.right is.right) (λ p. (agree-own n rows p.left, agree-own n rows p.right))
+        (products_of netlist);
     labels = λ label there. agree-own n rows label.net;
   };
 }
@@ -84,7 +86,9 @@ module _ {old middle new : Circuit} (one : Refines old middle) (two : Refines mi
       record {
         before = a.before;
         are = a.are;
-        outputs = zip-over (λ (was is : NetPort). Agree n a.before b.before was.net is.net) (λ (was is : NetPort). Agree n b.before rows was.net is.net) (λ (was is : NetPort). Agree n a.before rows was.net is.net)
+        outputs = zip-over (λ (was is : NetPort). Agree n a.before b.before was.net is.net)
+            (λ (was is : NetPort). Agree n b.before rows was.net is.net)
+            (λ (was is : NetPort). Agree n a.before rows was.net is.net)
             (λ x y z p q. agree-over n a.before b.before rows x.net y.net z.net p q) old.outputs middle.outputs new.outputs a.outputs b.outputs;
         factors = zip-over (λ (was is : Product). Agree n a.before b.before was.left is.left × Agree n a.before b.before was.right is.right)
             (λ (was is : Product). Agree n b.before rows was.left is.left × Agree n b.before rows was.right is.right)
@@ -92,7 +96,9 @@ module _ {old middle new : Circuit} (one : Refines old middle) (two : Refines mi
             (λ x y z p q. (agree-over n a.before b.before rows x.left y.left z.left p.0 q.0, agree-over n a.before b.before rows x.right y.right z.right p.1 q.1))
             (products_of old) (products_of middle) (products_of new) a.factors b.factors;
         labels = λ label there.
-            agree-over n a.before b.before rows label.net (one.place label.net) (both label.net) (a.labels label there) (b.labels (record { net = one.place label.net; name = label.name }) (one.labels label there).there);
+            agree-over n a.before b.before rows label.net (one.place label.net) (both label.net)
+            (a.labels label there) (b.labels (record { net = one.place label.net; name = label.name })
+            (one.labels label there).there);
       }
 
   pub over : Refines old new

@@ -22,16 +22,24 @@ module _ (place : ℕ → ℕ) (n : ℕ) (whole rows : Rows) where
   abbrev Same : ℕ → Type 0
   Same a = Agree n whole rows a (place a)
 
-  number-over : (c : ℕ) → c < n → (args : List ℕ) → ((i a : ℕ) → slice_get args i ≡ Some a → Same a) → (i : ℕ) → number_at (λ net. whole net c) (slice_get args i) ≡ number_at (λ net. rows net c) (slice_get (map place args) i)
+  number-over : (c : ℕ) → c < n → (args : List ℕ) → ((i a : ℕ) → slice_get args i ≡ Some a → Same a) → (i : ℕ)
+      → number_at (λ net. whole net c) (slice_get args i)
+      ≡ number_at (λ net. rows net c) (slice_get (map place args) i)
   number-over c below [] same i = refl
   number-over c below (x ∷ args) same zero = same 0 x refl c below
   number-over c below (x ∷ args) same (suc i) = number-over c below args (λ j a is. same (suc j) a is) i
 
   operands-over : (c : ℕ) → c < n → (args : List ℕ) → ((i a : ℕ) → slice_get args i ≡ Some a → Same a) → operands_at (λ net. whole net c) args ≡ operands_at (λ net. rows net c) (map place args)
-  operands-over c below args same = (let a = number-over c below args same 0 in let b = number-over c below args same 1 in let d = number-over c below args same 2 in λ i. record { first = a i; second = b i; third = d i })
+  operands-over c below args same = (let a = number-over c below args same 0 in let b =
+      number-over c below args same 1 in let d =
+      number-over c below args same 2 in λ i. record { first = a i; second = b i; third = d i })
 
-  shows-over : (cycles : ℕ) (inputs : Inputs) (w : ℕ) (s : Bool) (kind : NetKind) (wave : Wave) → ((a : ℕ) → Contains (reads kind) a → Same a) → NetShows cycles n inputs whole w s kind wave → NetShows cycles n inputs rows w s (redirected place kind) wave
-  shows-over cycles inputs w s (Comb op args) wave same h = λ c below. subst (λ (o : Operands). IsWrapped (given_by op (λ number. inputs number c) o) w s (wave c)) (operands-over c below args (λ i a is. same a (stands args i a is))) (h c below)
+  shows-over : (cycles : ℕ) (inputs : Inputs) (w : ℕ) (s : Bool) (kind : NetKind) (wave : Wave)
+      → ((a : ℕ) → Contains (reads kind) a → Same a) → NetShows cycles n inputs whole w s kind wave
+      → NetShows cycles n inputs rows w s (redirected place kind) wave
+  shows-over cycles inputs w s (Comb op args) wave same h =
+      λ c below. subst (λ (o : Operands). IsWrapped (given_by op (λ number. inputs number c) o) w s (wave c))
+      (operands-over c below args (λ i a is. same a (stands args i a is))) (h c below)
   shows-over cycles inputs w s (Reg frame slot first from) wave same h = record {
     begins = h.begins;
     takes = λ c below t. h.takes c below t ∙ same from (0, omega arith, refl) c (omega (arith, below));
@@ -52,7 +60,9 @@ module _ (place : ℕ → ℕ) (n : ℕ) (whole rows : Rows) where
         let r = mod-le (c - span.start) span.length in
         h.holds c below late past ∙ same from (0, omega arith, refl) (c - (c - span.start) % span.length + live * cycles - 1) (omega (arith, below, late, past, r));
   }
-  shows-over cycles inputs w s (Unit left right) wave same h = λ c below. h c below ∙ (let a = same left (0, omega arith, refl) c below in let b = same right (1, omega arith, refl) c below in λ i. a i *ℤ b i)
+  shows-over cycles inputs w s (Unit left right) wave same h =
+      λ c below. h c below ∙ (let a = same left (0, omega arith, refl) c below in let b =
+      same right (1, omega arith, refl) c below in λ i. a i *ℤ b i)
   shows-over cycles inputs w s (Counter frame) wave same h = h
 
 module _ (there : RowsAreThere) (one : RowsAreOne) {old new : Circuit} {place back : ℕ → ℕ} (was_runs : IsNetlist old) (runs : IsNetlist new) (d : Drops old new place back) where
@@ -88,8 +98,12 @@ module _ (there : RowsAreThere) (one : RowsAreOne) {old new : Circuit} {place ba
     reflects = record {
       before = whole;
       are = (there old n inputs was_runs).are;
-      outputs = zip-weaker (λ (was is : NetPort). IsKept new place back was.net is.net) (λ (was is : NetPort). Agree n whole rows was.net is.net) (λ was is k. kept-agrees was.net is.net k) old.outputs new.outputs d.outputs_kept;
-      factors = zip-weaker (λ (was is : Product). IsKept new place back was.left is.left × IsKept new place back was.right is.right) (λ (was is : Product). Agree n whole rows was.left is.left × Agree n whole rows was.right is.right)
+      outputs = zip-weaker (λ (was is : NetPort). IsKept new place back was.net is.net)
+          (λ (was is : NetPort). Agree n whole rows was.net is.net)
+          (λ was is k. kept-agrees was.net is.net k) old.outputs new.outputs d.outputs_kept;
+      factors = zip-weaker (λ (was is : Product). IsKept new place back was.left is.left
+          × IsKept new place back was.right is.right)
+          (λ (was is : Product). Agree n whole rows was.left is.left × Agree n whole rows was.right is.right)
           (λ was is k. (kept-agrees was.left is.left k.0, kept-agrees was.right is.right k.1)) (products_of old) (products_of new) d.factors_kept;
       labels = λ label at. kept-agrees label.net (place label.net) (d.labels_kept label at);
     }

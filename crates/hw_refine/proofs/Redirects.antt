@@ -1,5 +1,6 @@
 -- A netlist whose nets read others that show the same stands in the place of what it was made from.
-use Rattle.std.proofs.Common.{◌≡◌, ◌⊎◌, inl, inr, ℕ, zero, suc, ◌+◌, ◌-◌, ◌%◌, ◌<◌, Bool, List, [], ◌∷◌, ◌++◌, map, flat_map, length, Contains, slice_get, get_or, refl, ap, sym, ◌∙◌, subst, arith, ℤ, ◌*ℤ◌}
+use Rattle.std.proofs.Common.{◌≡◌, ◌⊎◌, inl, inr, ℕ, zero, suc, ◌+◌, ◌-◌, ◌%◌, ◌<◌, Bool, List, [], ◌∷◌, ◌++◌, map, flat_map, length, Contains, slice_get, get_or, refl, ap, sym, ◌∙◌, subst, arith, ℤ}
+use Rattle.std.proofs.Common.{◌*ℤ◌}
 use Rattle.std.specs.List.{AllZip}
 use Rattle.std.specs.Prelude.{⊤}
 use Rattle.std.proofs.Math.Nat.{mod-le}
@@ -174,7 +175,8 @@ module _ (root : ℕ → ℕ) (n : ℕ) (rows : Rows) (same : (k : ℕ) → Agre
   number-same c below (x ∷ args) (suc i) = number-same c below args i
 
   operands-same : (c : ℕ) → c < n → (args : List ℕ) → operands_at (λ net. rows net c) (map root args) ≡ operands_at (λ net. rows net c) args
-  operands-same c below args = (let a = number-same c below args 0 in let b = number-same c below args 1 in let d = number-same c below args 2 in λ i. record { first = a i; second = b i; third = d i })
+  operands-same c below args = (let a = number-same c below args 0 in let b = number-same c below args 1 in let d =
+      number-same c below args 2 in λ i. record { first = a i; second = b i; third = d i })
 
   reg-back : (span : Span) (slot : ℕ) (first : ℤ) (from : ℕ) (wave : Wave) → IsReg n span slot first (rows (root from)) wave → IsReg n span slot first (rows from) wave
   reg-back span slot first from wave h = record {
@@ -183,7 +185,9 @@ module _ (root : ℕ → ℕ) (n : ℕ) (rows : Rows) (same : (k : ℕ) → Agre
     keeps = h.keeps;
   }
 
-  enreg-back : (span : Span) (reset : Bool) (first : ℤ) (enable from : ℕ) (wave : Wave) → IsEnReg n span reset first (rows (root enable)) (rows (root from)) wave → IsEnReg n span reset first (rows enable) (rows from) wave
+  enreg-back : (span : Span) (reset : Bool) (first : ℤ) (enable from : ℕ) (wave : Wave)
+      → IsEnReg n span reset first (rows (root enable)) (rows (root from)) wave
+      → IsEnReg n span reset first (rows enable) (rows from) wave
   enreg-back span reset first enable from wave h = record {
     begins = h.begins;
     takes = λ c below t on. h.takes c below t (λ e. on (same enable c (omega (arith, below)) ∙ e)) ∙ sym (same from c (omega (arith, below)));
@@ -201,7 +205,8 @@ module _ (root : ℕ → ℕ) (n : ℕ) (rows : Rows) (same : (k : ℕ) → Agre
         h.holds c below late past ∙ sym (same from (c - (c - span.start) % span.length + live - 1) (omega (arith, below, late, past, r)));
   }
 
-  shows-back : (cycles : ℕ) (inputs : Inputs) (w : ℕ) (s : Bool) (kind : NetKind) (wave : Wave) → NetShows cycles n inputs rows w s (redirected root kind) wave → NetShows cycles n inputs rows w s kind wave
+  shows-back : (cycles : ℕ) (inputs : Inputs) (w : ℕ) (s : Bool) (kind : NetKind) (wave : Wave)
+      → NetShows cycles n inputs rows w s (redirected root kind) wave → NetShows cycles n inputs rows w s kind wave
   shows-back cycles inputs w s (Comb op args) wave h = λ c below. subst (λ (o : Operands). IsWrapped (given_by op (λ number. inputs number c) o) w s (wave c)) (operands-same c below args) (h c below)
   shows-back cycles inputs w s (Reg frame slot first from) wave h = reg-back (span_of cycles frame) slot first from wave h
   shows-back cycles inputs w s (EnReg frame enable reset first from) wave h = enreg-back (span_of cycles frame) reset first enable from wave h
@@ -304,7 +309,9 @@ module _ {old new : Circuit} {root : ℕ → ℕ} (r : Redirects old new root) w
     rows = λ n inputs rows are. record {
       before = rows;
       are = rows-back n inputs rows are;
-      outputs = zip-weaker (IsReported root) (λ (was is : NetPort). Agree n rows rows was.net is.net) (λ was is p. subst (Agree n rows rows was.net) (sym p.net) ((r.roots was.net).same n inputs rows are)) old.outputs new.outputs r.outputs;
+      outputs = zip-weaker (IsReported root) (λ (was is : NetPort). Agree n rows rows was.net is.net)
+          (λ was is p. subst (Agree n rows rows was.net) (sym p.net) ((r.roots was.net).same n inputs rows are))
+          old.outputs new.outputs r.outputs;
       factors = product-pairs root (Agree n rows rows) (λ k c below. refl) (λ k. (r.roots k).same n inputs rows are) old new r.nets;
       labels = λ label there c below. refl;
     };

@@ -29,7 +29,9 @@ module _ (root : ℕ → ℕ) (rows : Rows) where
   operands-of : (c : ℕ) (args : List ℕ) → operands_at (λ net. rows net c) (map root args) ≡ operands_at (λ net. rows (root net) c) args
   operands-of c args = (let a = number-of c args 0 in let b = number-of c args 1 in let d = number-of c args 2 in λ i. record { first = a i; second = b i; third = d i })
 
-  shows-of : (cycles n : ℕ) (inputs : Inputs) (w : ℕ) (s : Bool) (kind : NetKind) (wave : Wave) → NetShows cycles n inputs rows w s (redirected root kind) wave → NetShows cycles n inputs (λ k. rows (root k)) w s kind wave
+  shows-of : (cycles n : ℕ) (inputs : Inputs) (w : ℕ) (s : Bool) (kind : NetKind) (wave : Wave)
+      → NetShows cycles n inputs rows w s (redirected root kind) wave
+      → NetShows cycles n inputs (λ k. rows (root k)) w s kind wave
   shows-of cycles n inputs w s (Comb op args) wave h = λ c below. subst (λ (o : Operands). IsWrapped (given_by op (λ number. inputs number c) o) w s (wave c)) (operands-of c args) (h c below)
   shows-of cycles n inputs w s (Reg frame slot first from) wave h = h
   shows-of cycles n inputs w s (EnReg frame enable reset first from) wave h = h
@@ -56,16 +58,22 @@ module _ {old new : Circuit} {root : ℕ → ℕ} (r : Represents old new root) 
         subst (λ (kind : NetKind). NetShows old.cycles n inputs before was.width was.signed kind (before k)) (sym copy.is)
         (λ c below. subst (λ (j : ℕ). IsWrapped (rows j c) was.width was.signed (rows (root k) c)) (sym copy.same) (own-wrapped (rows (root k) c) was.width was.signed (word-of k was at c below)))
 
-    done : (k : ℕ) (was : Net) (at : slice_get old.nets k ≡ Some was) → (r.nets k was at).is.kind ≡ redirected root was.kind → NetShows old.cycles n inputs before was.width was.signed was.kind (before k)
+    done : (k : ℕ) (was : Net) (at : slice_get old.nets k ≡ Some was)
+        → (r.nets k was at).is.kind ≡ redirected root was.kind
+        → NetShows old.cycles n inputs before was.width was.signed was.kind (before k)
     done k was at e =
         let x = r.nets k was at in
         let h = are.shows (root k) x.is x.there in
         let a = subst (λ (cycles : ℕ). NetShows cycles n inputs rows x.is.width x.is.signed x.is.kind (rows (root k))) r.cycles h in
         let b = subst (λ (w : ℕ). NetShows old.cycles n inputs rows w x.is.signed x.is.kind (rows (root k))) x.wide a in
         let d = subst (λ (s : Bool). NetShows old.cycles n inputs rows was.width s x.is.kind (rows (root k))) x.sign b in
-        shows-of root rows old.cycles n inputs was.width was.signed was.kind (rows (root k)) (subst (λ (kind : NetKind). NetShows old.cycles n inputs rows was.width was.signed kind (rows (root k))) e d)
+        shows-of root rows old.cycles n inputs was.width was.signed was.kind (rows (root k))
+        (subst (λ (kind : NetKind). NetShows old.cycles n inputs rows was.width was.signed kind (rows (root k)))
+        e d)
 
-    shows-at : (k : ℕ) (was : Net) (at : slice_get old.nets k ≡ Some was) → ((r.nets k was at).is.kind ≡ redirected root was.kind) ⊎ IsCopy root k was.kind → NetShows old.cycles n inputs before was.width was.signed was.kind (before k)
+    shows-at : (k : ℕ) (was : Net) (at : slice_get old.nets k ≡ Some was)
+        → ((r.nets k was at).is.kind ≡ redirected root was.kind) ⊎ IsCopy root k was.kind
+        → NetShows old.cycles n inputs before was.width was.signed was.kind (before k)
     shows-at k was at (inl e) = done k was at e
     shows-at k was at (inr copy) = copied k was at copy
 
@@ -73,8 +81,11 @@ module _ {old new : Circuit} {root : ℕ → ℕ} (r : Represents old new root) 
     reflects = record {
       before = before;
       are = record { shows = λ k was at. shows-at k was at (r.nets k was at).kind; in_word = λ k was at c below. word-of k was at c below };
-      outputs = zip-weaker (λ (was is : NetPort). root was.net ≡ is.net) (λ (was is : NetPort). Agree n before rows was.net is.net) (λ was is e c below. ap (λ (j : ℕ). rows j c) e) old.outputs new.outputs r.outputs_kept;
-      factors = zip-weaker (λ (was is : Product). (root was.left ≡ is.left) × (root was.right ≡ is.right)) (λ (was is : Product). Agree n before rows was.left is.left × Agree n before rows was.right is.right)
+      outputs = zip-weaker (λ (was is : NetPort). root was.net ≡ is.net)
+          (λ (was is : NetPort). Agree n before rows was.net is.net)
+          (λ was is e c below. ap (λ (j : ℕ). rows j c) e) old.outputs new.outputs r.outputs_kept;
+      factors = zip-weaker (λ (was is : Product). (root was.left ≡ is.left) × (root was.right ≡ is.right))
+          (λ (was is : Product). Agree n before rows was.left is.left × Agree n before rows was.right is.right)
           (λ was is e. (λ c below. ap (λ (j : ℕ). rows j c) e.0, λ c below. ap (λ (j : ℕ). rows j c) e.1)) (products_of old) (products_of new) r.factors_kept;
       labels = λ label there c below. refl;
     }

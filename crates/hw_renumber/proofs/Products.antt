@@ -1,6 +1,7 @@
 -- What registers and multiplications are left where nets read by other numbers, and the Counter of a
 -- frame.
-use Rattle.std.proofs.Common.{◌≡◌, ℕ, zero, suc, ◌+◌, ◌<◌, List, [], ◌∷◌, ◌++◌, map, flat_map, length, Contains, Option, None, Some, Bool, true, false, if◌then◌else◌, slice_get, get_or, refl, ap, arith}
+use Rattle.std.proofs.Common.{◌≡◌, ℕ, zero, suc, ◌+◌, ◌<◌, List, [], ◌∷◌, ◌++◌, map, flat_map, length, Contains, Option, None, Some, Bool, true, false, if◌then◌else◌, slice_get, get_or, refl, ap}
+use Rattle.std.proofs.Common.{arith}
 use Rattle.std.specs.List.{AllZip}
 use Rattle.std.proofs.lemmas.Option.{none-some, same_Some, slice_get_within}
 use Rattle.hw_net.specs.declared.netlist.Frame.{Frame}
@@ -34,7 +35,9 @@ ones (net ∷ nets) = ap (λ (rest : List Net). net ∷ rest) (ones nets)
 -- ---- nets
 
 -- the first Counter of a frame is one of the nets, and counts it
-pub counter-at : (nets : List Net) (start j : ℕ) (frame : Frame) → counter_from nets start frame ≡ Some j → (k : ℕ) × (net : Net) × (j ≡ start + k) × (slice_get nets k ≡ Some net) × (counted_frame net.kind ≡ Some frame)
+pub counter-at : (nets : List Net) (start j : ℕ) (frame : Frame) → counter_from nets start frame ≡ Some j
+    → (k : ℕ) × (net : Net) × (j ≡ start + k) × (slice_get nets k ≡ Some net)
+    × (counted_frame net.kind ≡ Some frame)
 counter-at [] start j frame e = absurd (none-some j e)
 counter-at (one ∷ nets) start j frame e = by (counter-at nets (start + 1) j frame) (is_frame frame (counted_frame one.kind)) refl e
   where
@@ -90,12 +93,15 @@ module _ (place : ℕ → ℕ) (Q : ℕ → ℕ → Type 0) where
   unit-zip w v (Unit left right) on = ((on left (0, omega arith, refl), on right (1, omega arith, refl)), tt)
   unit-zip w v (Counter frame) on = tt
 
-  factors-zip : (args : List ℕ) → length args ≡ 2 → ((read : ℕ) → Contains args read → Q read (place read)) → Q (get_or args 0 0) (get_or (map place args) 0 0) × Q (get_or args 1 0) (get_or (map place args) 1 0)
+  factors-zip : (args : List ℕ) → length args ≡ 2 → ((read : ℕ) → Contains args read → Q read (place read))
+      → Q (get_or args 0 0) (get_or (map place args) 0 0) × Q (get_or args 1 0) (get_or (map place args) 1 0)
   factors-zip [] e on = absurd (omega (arith, e))
   factors-zip (x ∷ []) e on = absurd (omega (arith, e))
   factors-zip (x ∷ y ∷ rest) e on = (on x (0, omega arith, refl), on y (1, omega arith, refl))
 
-  op-zip : (w v : ℕ) (args : List ℕ) (op : NetOp) → length args ≡ arity op → ((read : ℕ) → Contains args read → Q read (place read)) → AllZip Factors (op_product w args op) (op_product v (map place args) op)
+  op-zip : (w v : ℕ) (args : List ℕ) (op : NetOp) → length args ≡ arity op
+      → ((read : ℕ) → Contains args read → Q read (place read))
+      → AllZip Factors (op_product w args op) (op_product v (map place args) op)
   op-zip w v args (Input number) e on = tt
   op-zip w v args (Const value) e on = tt
   op-zip w v args Resize e on = tt
@@ -114,7 +120,9 @@ module _ (place : ℕ → ℕ) (Q : ℕ → ℕ → Type 0) where
   op-zip w v args Choose e on = tt
   op-zip w v args (Slice high low) e on = tt
 
-  pub comb-zip : (w v : ℕ) (nets : List Net) (cycles inputs u : ℕ) (s : Bool) (kind : NetKind) → IsKind nets cycles inputs u s kind → ((read : ℕ) → Contains (reads kind) read → Q read (place read)) → AllZip Factors (comb_product w kind) (comb_product v (redirected place kind))
+  pub comb-zip : (w v : ℕ) (nets : List Net) (cycles inputs u : ℕ) (s : Bool) (kind : NetKind)
+      → IsKind nets cycles inputs u s kind → ((read : ℕ) → Contains (reads kind) read → Q read (place read))
+      → AllZip Factors (comb_product w kind) (comb_product v (redirected place kind))
   comb-zip w v nets cycles inputs u s (Comb op args) is on = op-zip w v args op is.0 on
   comb-zip w v nets cycles inputs u s (Reg frame slot first from) is on = tt
   comb-zip w v nets cycles inputs u s (EnReg frame enable reset first from) is on = tt

@@ -1,5 +1,6 @@
 -- A renumbered netlist can be run and emitted.
-use Rattle.std.proofs.Common.{◌≡◌, ◌≢◌, ℕ, zero, suc, ◌+◌, ◌<◌, ◌≤◌, List, [], ◌∷◌, ◌++◌, map, length, All, Contains, Some, IsSome, Bool, true, false, if◌then◌else◌, slice_get, refl, ap, sym, ◌∙◌, subst, arith}
+use Rattle.std.proofs.Common.{◌≡◌, ◌≢◌, ℕ, zero, suc, ◌+◌, ◌<◌, ◌≤◌, List, [], ◌∷◌, ◌++◌, map, length, All, Contains, Some, IsSome, Bool, true, false, if◌then◌else◌, slice_get, refl, ap, sym, ◌∙◌}
+use Rattle.std.proofs.Common.{subst, arith}
 use Rattle.std.specs.List.{AllPairs}
 use Rattle.std.proofs.lemmas.List.{length-map, map-append}
 use Rattle.std.proofs.lemmas.Option.{get_or_from_slice_get, slice_get-get_or, slice_get_within, same_Some}
@@ -117,7 +118,9 @@ module _ (old : Circuit) (place : ℕ → ℕ) (kept : List ℕ) (can : CanStay 
       abbrev there-at : (read : ℕ) → Contains (reads kind) read → slice_get old.nets read ≡ Some (net_at old.nets read)
       there-at read c = slice_get-get_or old.nets read no_net (below read c)
 
-    bits-moved : (args : List ℕ) (high low : ℕ) → ((read : ℕ) → Contains args read → IsStanding old place kept read) → ((read : ℕ) → Contains args read → read < length old.nets) → HasBits old.nets args high low → HasBits new.nets (map place args) high low
+    bits-moved : (args : List ℕ) (high low : ℕ) → ((read : ℕ) → Contains args read → IsStanding old place kept read)
+        → ((read : ℕ) → Contains args read → read < length old.nets) → HasBits old.nets args high low
+        → HasBits new.nets (map place args) high low
     bits-moved args high low st below h = record {
       ordered = h.ordered;
       within = λ k read net at is.
@@ -128,7 +131,9 @@ module _ (old : Circuit) (place : ℕ → ℕ) (kept : List ℕ) (can : CanStay 
           subst (λ (w : ℕ). high < w) (sym w.0) b;
     }
 
-    parts-moved : (args : List ℕ) (op : NetOp) → ((read : ℕ) → Contains args read → IsStanding old place kept read) → ((read : ℕ) → Contains args read → read < length old.nets) → HasParts old.nets (length old.inputs) args op → HasParts new.nets (length new.inputs) (map place args) op
+    parts-moved : (args : List ℕ) (op : NetOp) → ((read : ℕ) → Contains args read → IsStanding old place kept read)
+        → ((read : ℕ) → Contains args read → read < length old.nets) → HasParts old.nets (length old.inputs) args op
+        → HasParts new.nets (length new.inputs) (map place args) op
     parts-moved args (Input number) st below h = subst (λ (n : ℕ). number < n) (sym (length-map old.inputs (moved_port place))) h
     parts-moved args (Const value) st below h = tt
     parts-moved args Resize st below h = tt
@@ -147,7 +152,9 @@ module _ (old : Circuit) (place : ℕ → ℕ) (kept : List ℕ) (can : CanStay 
     parts-moved args Choose st below h = tt
     parts-moved args (Slice high low) st below h = bits-moved args high low st below h
 
-    holds-moved : (l r w : ℕ) (s : Bool) → IsStanding old place kept l → IsStanding old place kept r → l < length old.nets → r < length old.nets → HoldsProducts old.nets l r w s → HoldsProducts new.nets (place l) (place r) w s
+    holds-moved : (l r w : ℕ) (s : Bool) → IsStanding old place kept l → IsStanding old place kept r
+        → l < length old.nets → r < length old.nets → HoldsProducts old.nets l r w s
+        → HoldsProducts new.nets (place l) (place r) w s
     holds-moved l r w s sl sr bl br h = record {
       holds = λ one other is other-is x y in-one in-other.
           let a = word-at l one sl is in
@@ -157,23 +164,32 @@ module _ (old : Circuit) (place : ℕ → ℕ) (kept : List ℕ) (can : CanStay 
           (subst (λ (s : Bool). InWord (net_at old.nets r).width s y) b.1 (subst (λ (w : ℕ). InWord w other.signed y) b.0 in-other));
     }
 
-    kind-moved : (w : ℕ) (s : Bool) (kind : NetKind) → ((read : ℕ) → Contains (reads kind) read → IsStanding old place kept read) → ((read : ℕ) → Contains (reads kind) read → read < length old.nets) → IsKind old.nets old.cycles (length old.inputs) w s kind → IsKind new.nets new.cycles (length new.inputs) w s (redirected place kind)
+    kind-moved : (w : ℕ) (s : Bool) (kind : NetKind)
+        → ((read : ℕ) → Contains (reads kind) read → IsStanding old place kept read)
+        → ((read : ℕ) → Contains (reads kind) read → read < length old.nets)
+        → IsKind old.nets old.cycles (length old.inputs) w s kind
+        → IsKind new.nets new.cycles (length new.inputs) w s (redirected place kind)
     kind-moved w s (Comb op args) st below h = (length-map args place ∙ h.0, parts-moved args op st below h.1)
     kind-moved w s (Reg frame slot first from) st below h = (h.0, word-moved from w s (st from (0, omega arith, refl)) h.1, h.2)
     kind-moved w s (EnReg frame enable reset first from) st below h = (h.0, word-moved from w s (st from (1, omega arith, refl)) h.1, h.2)
     kind-moved w s (Bridge frame live from) st below h = (h.0, h.1, word-moved from w s (st from (0, omega arith, refl)) h.2)
-    kind-moved w s (Unit left right) st below h = holds-moved left right w s (st left (0, omega arith, refl)) (st right (1, omega arith, refl)) (below left (0, omega arith, refl)) (below right (1, omega arith, refl)) h
+    kind-moved w s (Unit left right) st below h =
+        holds-moved left right w s (st left (0, omega arith, refl)) (st right (1, omega arith, refl))
+        (below left (0, omega arith, refl)) (below right (1, omega arith, refl)) h
     kind-moved w s (Counter frame) st below h = h
 
     read-below : (i b read : ℕ) → slice_get kept i ≡ Some b → Contains (reads (net_at old.nets b).kind) read → read < length old.nets
-    read-below i b read is c = all-in (λ (r : ℕ). r < length old.nets) (reads (net_at old.nets b).kind) (all-at (λ (n : Net). All (λ (r : ℕ). r < length old.nets) (reads n.kind)) old.nets runs.there b (net_at old.nets b) (was-there i b is)) read c
+    read-below i b read is c = all-in (λ (r : ℕ). r < length old.nets) (reads (net_at old.nets b).kind)
+        (all-at (λ (n : Net). All (λ (r : ℕ). r < length old.nets) (reads n.kind)) old.nets runs.there b
+        (net_at old.nets b) (was-there i b is)) read c
 
     pub sound : IsNetlist new
     sound = record {
       cycles = runs.cycles;
       words = all-from (λ (n : Net). IsWord n.width n.signed) new.nets (each-new (λ (n : Net). IsWord n.width n.signed)
           (λ i b is. all-at (λ (n : Net). IsWord n.width n.signed) old.nets runs.words b (net_at old.nets b) (was-there i b is)));
-      kinds = all-from (λ (n : Net). IsKind new.nets new.cycles (length new.inputs) n.width n.signed n.kind) new.nets (each-new (λ (n : Net). IsKind new.nets new.cycles (length new.inputs) n.width n.signed n.kind)
+      kinds = all-from (λ (n : Net). IsKind new.nets new.cycles (length new.inputs) n.width n.signed n.kind)
+          new.nets (each-new (λ (n : Net). IsKind new.nets new.cycles (length new.inputs) n.width n.signed n.kind)
           (λ i b is. kind-moved (net_at old.nets b).width (net_at old.nets b).signed (net_at old.nets b).kind (λ read c. can.reads i b read is c) (λ read c. read-below i b read is c)
           (all-at (λ (n : Net). IsKind old.nets old.cycles (length old.inputs) n.width n.signed n.kind) old.nets runs.kinds b (net_at old.nets b) (was-there i b is))));
       there = all-from (λ (n : Net). All (λ (r : ℕ). r < length new.nets) (reads n.kind)) new.nets (each-new (λ (n : Net). All (λ (r : ℕ). r < length new.nets) (reads n.kind))
@@ -211,13 +227,16 @@ module _ (old : Circuit) (place : ℕ → ℕ) (kept : List ℕ) (can : CanStay 
     together = sym (map-append (moved_port place) old.inputs old.outputs)
 
     -- what the ports keep holds of the moved ports
-    of-ports : (P : NetPort → Type 0) → ((port : NetPort) → Contains (old.inputs ++ old.outputs) port → P (moved_port place port)) → (port : NetPort) → Contains (new.inputs ++ new.outputs) port → P port
+    of-ports : (P : NetPort → Type 0) → ((port : NetPort) → Contains (old.inputs ++ old.outputs) port
+        → P (moved_port place port)) → (port : NetPort) → Contains (new.inputs ++ new.outputs) port → P port
     of-ports P h port c = (let m = image (moved_port place) (old.inputs ++ old.outputs) port (subst (λ (xs : List NetPort). Contains xs port) together c) in subst P m.2 (h m.0 m.1))
 
     ports-moved : ArePorts new.inputs new.outputs
     ports-moved = record {
       names = of-ports (λ (port : NetPort). IsPortName port.name) (λ port c. emits.ports.names port c);
-      differ = subst (AllPairs (λ (one other : NetPort). one.name ≢ other.name)) (sym together) (pairs-map (moved_port place) (λ (one other : NetPort). one.name ≢ other.name) (old.inputs ++ old.outputs) emits.ports.differ);
+      differ = subst (AllPairs (λ (one other : NetPort). one.name ≢ other.name)) (sym together)
+          (pairs-map (moved_port place) (λ (one other : NetPort). one.name ≢ other.name)
+          (old.inputs ++ old.outputs) emits.ports.differ);
       periods = of-ports (λ (port : NetPort). IsPeriod port.period) (λ port c. emits.ports.periods port c);
       latencies = λ port c. (let m = image (moved_port place) old.outputs port c in subst (λ (q : NetPort). q.latency ≤ most_latency) m.2 (emits.ports.latencies m.0 m.1));
     }

@@ -41,7 +41,9 @@ module _ (f : ℕ → ℕ) (test : ℕ → Bool) where
 
 pub unshared_is : (diagram : Diagram) (plan : Resolved) → sum_below (own_at diagram plan) (length diagram.blocks) ≡ unshared diagram (attributes_of diagram) plan
 unshared_is diagram plan =
-    sym (filtered (λ place. (attributes_of diagram).width_at place 1) (λ place. multiplies diagram place && not (is_shared diagram (attributes_of diagram) plan place)) (numbers_from 0 (length diagram.blocks)))
+    sym (filtered (λ place. (attributes_of diagram).width_at place 1)
+    (λ place. multiplies diagram place && not (is_shared diagram (attributes_of diagram) plan place))
+    (numbers_from 0 (length diagram.blocks)))
 
 -- ---- multipliers
 

@@ -45,7 +45,8 @@ module _ (netlist : Circuit) (inputs : Inputs) (rows : Rows) where
       (subst (λ (r : Row). Goes netlist c (λ number. inputs number c) r (λ net. rows net c)) (λ i net. before net i) goes)
 
   -- at the first clock the row before has no say
-  from-row : (n : ℕ) (given values last : Row) → ((net : ℕ) → 0 < n → rows net (n - 1) ≡ values net) → Goes netlist n given values last → Goes netlist n given (λ net. more rows n last net (n - 1)) last
+  from-row : (n : ℕ) (given values last : Row) → ((net : ℕ) → 0 < n → rows net (n - 1) ≡ values net)
+      → Goes netlist n given values last → Goes netlist n given (λ net. more rows n last net (n - 1)) last
   from-row zero given values last held goes = record { each = λ k net there. goes.each k net there }
   from-row (suc n) given values last held goes =
       let same : (net : ℕ) → values net ≡ more rows (suc n) last net (suc n - 1) = λ net. sym (more-before rows (suc n) last net (suc n - 1) (omega arith) ∙ held net (omega arith)) in
@@ -75,7 +76,9 @@ at-more netlist inputs state new given at agree goes count = record {
         | inl less ↦ goes-before netlist inputs at.rows state.clocks (row_of new.values) c less (at.goes c less)
         | inr end ↦
             let same : state.clocks ≡ c = omega (arith, below, end, count) in
-            subst (λ (x : ℕ). Goes netlist x (λ number. inputs number x) (λ net. more at.rows state.clocks (row_of new.values) net (x - 1)) (λ net. more at.rows state.clocks (row_of new.values) net x)) same
+            subst (λ (x : ℕ). Goes netlist x (λ number. inputs number x)
+            (λ net. more at.rows state.clocks (row_of new.values) net (x - 1))
+            (λ net. more at.rows state.clocks (row_of new.values) net x)) same
             (goes-last netlist inputs at.rows state.clocks given (row_of state.values) (row_of new.values) at.last agree goes)
       ];
   last = λ net some.

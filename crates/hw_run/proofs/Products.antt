@@ -25,7 +25,9 @@ product-between width signed a b x (negsuc n) low high p q =
 swapped : (width : ℕ) (signed : Bool) (x y : ℤ) → InWord width signed (x *ℤ y) → InWord width signed (y *ℤ x)
 swapped width signed x y is = rw (*ℤ_comm y x) is
 
-module _ (width : ℕ) (signed : Bool) (a b c d : ℤ) (low_low : InWord width signed (a *ℤ c)) (low_high : InWord width signed (a *ℤ d)) (high_low : InWord width signed (b *ℤ c)) (high_high : InWord width signed (b *ℤ d)) where
+module _ (width : ℕ) (signed : Bool) (a b c d : ℤ) (low_low : InWord width signed (a *ℤ c))
+    (low_high : InWord width signed (a *ℤ d)) (high_low : InWord width signed (b *ℤ c))
+    (high_high : InWord width signed (b *ℤ d)) where
   pub product-in-word : (x y : ℤ) → a ≤ℤ x → x ≤ℤ b → c ≤ℤ y → y ≤ℤ d → InWord width signed (x *ℤ y)
   product-in-word x y p q r s =
       let low = product-between width signed a b x c p q low_low high_low in
@@ -55,7 +57,9 @@ highest-in-word width true = record { low = omega (arith, ints); high = omega (a
 highest-in-word width false = record { low = omega (arith, ints); high = omega (arith, ints) }
 
 -- a word that has all products of two words has those of the ends
-module _ (nets : List Net) (left right width : ℕ) (signed : Bool) (one other : Net) (there : slice_get nets left ≡ Some one) (also : slice_get nets right ≡ Some other) (is : HoldsProducts nets left right width signed) where
+module _ (nets : List Net) (left right width : ℕ) (signed : Bool) (one other : Net)
+    (there : slice_get nets left ≡ Some one) (also : slice_get nets right ≡ Some other)
+    (is : HoldsProducts nets left right width signed) where
   with-ends : (x : ℤ) → InWord one.width one.signed x
       → InWord width signed (x *ℤ word_lowest other.width other.signed) × InWord width signed (x *ℤ word_highest other.width other.signed)
   with-ends x in_one = (
@@ -63,8 +67,12 @@ module _ (nets : List Net) (left right width : ℕ) (signed : Bool) (one other :
     is.holds one other there also x (word_highest other.width other.signed) in_one (highest-in-word other.width other.signed),
   )
 
-  pub lowest-products : InWord width signed (word_lowest one.width one.signed *ℤ word_lowest other.width other.signed) × InWord width signed (word_lowest one.width one.signed *ℤ word_highest other.width other.signed)
+  pub lowest-products : InWord width signed
+      (word_lowest one.width one.signed *ℤ word_lowest other.width other.signed)
+      × InWord width signed (word_lowest one.width one.signed *ℤ word_highest other.width other.signed)
   lowest-products = with-ends (word_lowest one.width one.signed) (lowest-in-word one.width one.signed)
 
-  pub highest-products : InWord width signed (word_highest one.width one.signed *ℤ word_lowest other.width other.signed) × InWord width signed (word_highest one.width one.signed *ℤ word_highest other.width other.signed)
+  pub highest-products : InWord width signed
+      (word_highest one.width one.signed *ℤ word_lowest other.width other.signed)
+      × InWord width signed (word_highest one.width one.signed *ℤ word_highest other.width other.signed)
   highest-products = with-ends (word_highest one.width one.signed) (highest-in-word one.width one.signed)

@@ -13,7 +13,8 @@ use Rattle.hw_run.specs.inner.StepTests.{CanGive, CanStep}
 use Rattle.math_list.proofs.Places.{held, slice_get_inside}
 use Rattle.math_num.proofs.Words.{word-width}
 
-within-word : (nets : List Net) (args : List ℕ) (high low : ℕ) → All (λ net. IsWord net.width net.signed) nets → All (λ read. read < length nets) args → length args ≡ 1 → HasBits nets args high low → high < 128
+within-word : (nets : List Net) (args : List ℕ) (high low : ℕ) → All (λ net. IsWord net.width net.signed) nets
+    → All (λ read. read < length nets) args → length args ≡ 1 → HasBits nets args high low → high < 128
 within-word nets [] high low words there one bits = absurd (omega arith)
 within-word nets (read ∷ args) high low words there one bits = by (slice_get nets read) refl
   where

@@ -1,5 +1,6 @@
 -- One sweep over the nets in an order in which each stands after those that it reads in the same clock.
-use Rattle.std.proofs.Common.{◌≡◌, ◌≢◌, ℕ, zero, suc, ◌+◌, ◌*◌, ◌<◌, ◌≤◌, ◌⊎◌, inl, inr, Bool, List, length, Option, None, Some, slice_get, slice_index, slice_index_or, set, All, ℤ, pos, ap, sym, ◌∙◌, subst, arith, refl}
+use Rattle.std.proofs.Common.{◌≡◌, ◌≢◌, ℕ, zero, suc, ◌+◌, ◌*◌, ◌<◌, ◌≤◌, ◌⊎◌, inl, inr, Bool, List, length, Option, None, Some, slice_get, slice_index, slice_index_or, set, All, ℤ, pos, ap, sym, ◌∙◌}
+use Rattle.std.proofs.Common.{subst, arith, refl}
 use Rattle.math_num.specs.Word.{IsWrapped}
 use Rattle.hw_net.specs.declared.netlist.Net.{Net}
 use Rattle.hw_net.specs.declared.netlist.NetKind.{NetKind}
@@ -51,8 +52,11 @@ module _ (nets : List Net) (order : List ℕ) (cycles clock : ℕ) (inputs now :
     by-place : (j : ℕ) (net : Net) → slice_get nets (slice_index order j) ≡ Some net → (j < i) ⊎ (i ≤ j) → j < i + 1 → GoesAt net (slice_index order j)
     by-place j net there (inl less) below =
         let apart : slice_index order j ≢ slice_index order i = another i j h (omega arith) (λ e. omega arith) in
-        let same : row_of (set next (slice_index order i) v) (slice_index order j) ≡ row_of next (slice_index order j) = get_or-set_other next (slice_index order i) (slice_index order j) v (pos 0) apart in
-        rw same (goes-same (row_of next) (row_of (set next (slice_index order i) v)) cycles clock inputs now net.width net.signed net.kind (now (slice_index order j)) (row_of next (slice_index order j))
+        let same : row_of (set next (slice_index order i) v) (slice_index order j)
+        ≡ row_of next (slice_index order j) =
+        get_or-set_other next (slice_index order i) (slice_index order j) v (pos 0) apart in
+        rw same (goes-same (row_of next) (row_of (set next (slice_index order i) v)) cycles clock inputs now
+        net.width net.signed net.kind (now (slice_index order j)) (row_of next (slice_index order j))
         (kept (slice_index order j) net there (omega (arith, is.at j (omega arith)))) (before.each j net less there))
     by-place j net there (inr more) below =
         let e : j ≡ i = omega arith in

@@ -15,7 +15,8 @@ use Rattle.dg_model.specs.Signals.{Attributes}
 use Rattle.hw_latency.specs.Shared.{multiplies, shares, is_shared}
 use Rattle.hw_latency.specs.Weight.{samples}
 use Rattle.math_list.proofs.Sums.{greatest_at, sum_below_next}
-use Rattle.hw_sched.specs.Slots.{Timing, Operation, OperationKind, operation, operations_of, shared_operations, kind_of, is_same_mark, is_same_type, is_same_kind, level_of, count_at, shared_out, level_width, base_slot, levels_of, need_of, turn_of, slot_of}
+use Rattle.hw_sched.specs.Slots.{Timing, Operation, OperationKind, operation, operations_of, shared_operations, kind_of, is_same_mark, is_same_type, is_same_kind, level_of, count_at, shared_out}
+use Rattle.hw_sched.specs.Slots.{level_width, base_slot, levels_of, need_of, turn_of, slot_of}
 use Rattle.hw_sched.specs.Laws.{IsOperation}
 use Rattle.hw_sched.proofs.Lists.{greatest_within, sum_below_rises, sum_below_most, count_below, none_counted, Stands, stands_filtered, stands_joined, stands_below, passes, row_within}
 
@@ -119,7 +120,9 @@ module _ (diagram : Diagram) (attributes : Attributes) (plan : Resolved) (timing
   counts kind level o = is_same_kind (kind_of diagram attributes timing o) kind && (level_of timing o == level)
 
   pub counts_itself : (o : Operation) → counts (kind_of diagram attributes timing o) (level_of timing o) o ≡ true
-  counts_itself o = and_from (is_same_kind (kind_of diagram attributes timing o) (kind_of diagram attributes timing o)) (eqb (level_of timing o) (level_of timing o)) (own_kind (kind_of diagram attributes timing o)) (eq-eqb (level_of timing o) (level_of timing o) refl)
+  counts_itself o = and_from (is_same_kind (kind_of diagram attributes timing o)
+      (kind_of diagram attributes timing o)) (eqb (level_of timing o) (level_of timing o))
+      (own_kind (kind_of diagram attributes timing o)) (eq-eqb (level_of timing o) (level_of timing o) refl)
 
   abbrev is_of : ℕ → Operation → Bool
   is_of period o = samples (attributes.period_at o.block) == period
@@ -127,10 +130,14 @@ module _ (diagram : Diagram) (attributes : Attributes) (plan : Resolved) (timing
   abbrev needs : ℕ → Operation → ℕ
   needs level o = shared_out (count_at diagram attributes timing all (kind_of diagram attributes timing o) level) plan.multipliers
 
-  pub turn_below : (number : ℕ) (o : Operation) → IsOperation diagram attributes plan number o → turn_of diagram attributes plan timing number o < count_at diagram attributes timing all (kind_of diagram attributes timing o) (level_of timing o)
+  pub turn_below : (number : ℕ) (o : Operation) → IsOperation diagram attributes plan number o
+      → turn_of diagram attributes plan timing number o
+      < count_at diagram attributes timing all (kind_of diagram attributes timing o) (level_of timing o)
   turn_below number o at = count_below (counts (kind_of diagram attributes timing o) (level_of timing o)) all number o at (counts_itself o)
 
-  width_holds : (number : ℕ) (o : Operation) (period level : ℕ) → IsOperation diagram attributes plan number o → samples (attributes.period_at o.block) ≡ period → needs level o ≤ level_width diagram attributes plan timing period level
+  width_holds : (number : ℕ) (o : Operation) (period level : ℕ) → IsOperation diagram attributes plan number o
+      → samples (attributes.period_at o.block) ≡ period
+      → needs level o ≤ level_width diagram attributes plan timing period level
   width_holds number o period level at is =
       let stands = stands_filtered (is_of period) all number o at (eq-eqb (samples (attributes.period_at o.block)) period is) in
       greatest_at (needs level) (filter (is_of period) all) stands.place o stands.at
@@ -139,13 +146,17 @@ module _ (diagram : Diagram) (attributes : Attributes) (plan : Resolved) (timing
   pub row_below : (number : ℕ) (o : Operation) (period : ℕ) → IsOperation diagram attributes plan number o → samples (attributes.period_at o.block) ≡ period
       → turn_of diagram attributes plan timing number o / plan.multipliers < level_width diagram attributes plan timing period (level_of timing o)
   row_below number o period at is =
-      let row = row_within (turn_of diagram attributes plan timing number o) (count_at diagram attributes timing all (kind_of diagram attributes timing o) (level_of timing o)) plan.multipliers (turn_below number o at) (of_shared number o at).some in
+      let row = row_within (turn_of diagram attributes plan timing number o)
+      (count_at diagram attributes timing all (kind_of diagram attributes timing o) (level_of timing o))
+      plan.multipliers (turn_below number o at) (of_shared number o at).some in
       let width = width_holds number o period (level_of timing o) at is in
       omega (arith, row, width)
 
   -- ---- the first slots of levels
 
-  pub base_next : (period level : ℕ) → base_slot diagram attributes plan timing period (suc level) ≡ base_slot diagram attributes plan timing period level + level_width diagram attributes plan timing period level
+  pub base_next : (period level : ℕ) → base_slot diagram attributes plan timing period (suc level)
+      ≡ base_slot diagram attributes plan timing period level
+      + level_width diagram attributes plan timing period level
   base_next period level = let e = sum_below_next (level_width diagram attributes plan timing period) level in omega (arith, e)
 
   pub base_rises : (period level later : ℕ) → level ≤ later → base_slot diagram attributes plan timing period level ≤ base_slot diagram attributes plan timing period later
@@ -164,10 +175,14 @@ module _ (diagram : Diagram) (attributes : Attributes) (plan : Resolved) (timing
   level_after period o = if samples (attributes.period_at o.block) == period then suc (level_of timing o) else 0
 
   -- no operation of a period stands at a level past the last
-  none_past : (period level : ℕ) → levels_of diagram attributes plan timing period ≤ level → (number : ℕ) (o : Operation) → IsOperation diagram attributes plan number o → samples (attributes.period_at o.block) ≡ period → level_of timing o < level
+  none_past : (period level : ℕ) → levels_of diagram attributes plan timing period ≤ level
+      → (number : ℕ) (o : Operation) → IsOperation diagram attributes plan number o
+      → samples (attributes.period_at o.block) ≡ period → level_of timing o < level
   none_past period level past number o at is =
       let most = greatest_at (level_after period) all number o at in
-      let e : level_after period o ≡ suc (level_of timing o) = cond-true (eqb (samples (attributes.period_at o.block)) period) (suc (level_of timing o)) 0 (eq-eqb (samples (attributes.period_at o.block)) period is) in
+      let e : level_after period o ≡ suc (level_of timing o) =
+      cond-true (eqb (samples (attributes.period_at o.block)) period) (suc (level_of timing o)) 0
+      (eq-eqb (samples (attributes.period_at o.block)) period is) in
       omega (arith, most, e, past)
 
   no_width : (period level : ℕ) → levels_of diagram attributes plan timing period ≤ level → level_width diagram attributes plan timing period level ≡ 0
@@ -175,13 +190,17 @@ module _ (diagram : Diagram) (attributes : Attributes) (plan : Resolved) (timing
       let most = greatest_within (needs level) 0 (filter (is_of period) all) (λ k o at. nothing k o at) in
       omega (arith, most)
     where
-      uncounted : (o : Operation) → samples (attributes.period_at o.block) ≡ period → (number : ℕ) (other : Operation) → IsOperation diagram attributes plan number other → counts (kind_of diagram attributes timing o) level other ≡ false
+      uncounted : (o : Operation) → samples (attributes.period_at o.block) ≡ period
+          → (number : ℕ) (other : Operation) → IsOperation diagram attributes plan number other
+          → counts (kind_of diagram attributes timing o) level other ≡ false
       uncounted o is number other at = elim (cases_Bool (is_same_kind (kind_of diagram attributes timing other) (kind_of diagram attributes timing o))) [
         | inl same ↦
             let one = same_kind (kind_of diagram attributes timing other) (kind_of diagram attributes timing o) same in
             let p : samples (attributes.period_at other.block) ≡ period = ap (λ (kind : OperationKind). kind.period) one ∙ is in
             let low = none_past period level past number other at p in
-            and_right (is_same_kind (kind_of diagram attributes timing other) (kind_of diagram attributes timing o)) (eqb (level_of timing other) level) (ne_eqb (level_of timing other) level (λ e. absurd (omega (arith, e, low))))
+            and_right (is_same_kind (kind_of diagram attributes timing other) (kind_of diagram attributes timing o))
+            (eqb (level_of timing other) level)
+            (ne_eqb (level_of timing other) level (λ e. absurd (omega (arith, e, low))))
         | inr differ ↦ and_left (is_same_kind (kind_of diagram attributes timing other) (kind_of diagram attributes timing o)) (eqb (level_of timing other) level) differ
       ]
 

@@ -47,7 +47,9 @@ module _ (diagram : Diagram) (plan : Resolved) (timing : Timing) where
       let kinds = new_kind diagram attributes timing before.kinds o in
       let here : number ≡ length (before_kind kind kinds) = numbered before.kinds kind is.key before.numbers in
       let final : length (before_kind kind kinds) ≡ number_of diagram attributes plan timing kind =
-      sym (kept_all diagram attributes plan timing rest kinds kind (own_new diagram attributes plan timing before.kinds o)) ∙ ap (λ (ks : List OperationKind). length (before_kind kind ks)) before.left in
+      sym (kept_all diagram attributes plan timing rest kinds kind
+      (own_new diagram attributes plan timing before.kinds o))
+      ∙ ap (λ (ks : List OperationKind). length (before_kind kind ks)) before.left in
       let same : cell number sort.period sort.level ≡ cell_of diagram attributes plan timing o =
       ap (λ (k : ℕ). cell k sort.period sort.level) (here ∙ final)
       ∙ ap (λ (p : ℕ). cell (number_of diagram attributes plan timing kind) p sort.level) is.period
@@ -89,7 +91,9 @@ module _ (diagram : Diagram) (plan : Resolved) (timing : Timing) where
   operations_from place = flat_map (operations_of attributes) (filter (is_shared diagram attributes plan) (numbers_from place (length diagram.blocks - place)))
 
   pub operations_first : operations_from 0 ≡ shared_operations diagram attributes plan
-  operations_first = let e : length diagram.blocks - 0 ≡ length diagram.blocks = omega arith in ap (λ (n : ℕ). flat_map (operations_of attributes) (filter (is_shared diagram attributes plan) (numbers_from 0 n))) e
+  operations_first = let e : length diagram.blocks - 0 ≡ length diagram.blocks = omega arith in
+      ap (λ (n : ℕ). flat_map (operations_of attributes)
+      (filter (is_shared diagram attributes plan) (numbers_from 0 n))) e
 
   pub operations_next : (place : ℕ) → place < length diagram.blocks → operations_from place ≡ shared_at diagram plan place ++ operations_from (place + 1)
   operations_next place below =
@@ -104,7 +108,9 @@ module _ (diagram : Diagram) (plan : Resolved) (timing : Timing) where
       by rest false = refl
 
   pub operations_last : (place : ℕ) → length diagram.blocks ≤ place → operations_from place ≡ []
-  operations_last place past = let e : length diagram.blocks - place ≡ 0 = omega (arith, past) in ap (λ (n : ℕ). flat_map (operations_of attributes) (filter (is_shared diagram attributes plan) (numbers_from place n))) e
+  operations_last place past = let e : length diagram.blocks - place ≡ 0 = omega (arith, past) in
+      ap (λ (n : ℕ). flat_map (operations_of attributes)
+      (filter (is_shared diagram attributes plan) (numbers_from place n))) e
 
   pub cells_end : (place : ℕ) (cells : Cells) → length diagram.blocks ≤ place → But (operations_from place) cells → AreCells diagram plan timing cells
   cells_end place cells past before =

@@ -14,7 +14,8 @@ use Rattle.hw_sched.proofs.SlotExamples.{block_of, edge_of, scalars}
 abbrev pub fans : Decimal → Diagram
 fans one = record {
   blocks = block_of (Inport 1 0) 0 1 ∷ block_of (Gain (one ∷ []) Auto) 1 1
-      ∷ block_of (Sum (false ∷ false ∷ []) Internal) 2 1 ∷ block_of (Sum (false ∷ false ∷ []) Internal) 2 1 ∷ block_of (Sum (false ∷ false ∷ []) Internal) 2 1 ∷ block_of (Sum (false ∷ false ∷ []) Internal) 2 1
+      ∷ block_of (Sum (false ∷ false ∷ []) Internal) 2 1 ∷ block_of (Sum (false ∷ false ∷ []) Internal) 2 1
+      ∷ block_of (Sum (false ∷ false ∷ []) Internal) 2 1 ∷ block_of (Sum (false ∷ false ∷ []) Internal) 2 1
       ∷ block_of (Outport 1) 1 0 ∷ block_of (Outport 2) 1 0 ∷ block_of (Outport 3) 1 0 ∷ block_of (Outport 4) 1 0 ∷ [];
   edges = edge_of 0 1 1 ∷ edge_of 1 2 1 ∷ edge_of 0 2 2 ∷ edge_of 1 3 1 ∷ edge_of 0 3 2 ∷ edge_of 1 4 1 ∷ edge_of 0 4 2 ∷ edge_of 1 5 1 ∷ edge_of 0 5 2
       ∷ edge_of 2 6 1 ∷ edge_of 3 7 1 ∷ edge_of 4 8 1 ∷ edge_of 5 9 1 ∷ [];

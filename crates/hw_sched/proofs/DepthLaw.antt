@@ -65,7 +65,9 @@ module _ (diagram : Diagram) (plan : Resolved) (checked : IsChecked diagram) whe
       (joins.0, sym (ap period leads.4.1) ∙ joins.1.period, instant_longer diagram number edge end.0 p joins.0 is_edge leads.4.2 end.1 joins.1)
 
   -- from a place of a path on no block has a shorter period
-  along : (path : List ℕ) (steps k from to p : ℕ) → IsInstantPath diagram (attributes_of diagram) path → slice_get path k ≡ Some from → slice_get path (steps + k) ≡ Some to → period from ≡ Some p → (q : ℕ) × (period to ≡ Some q) × (p ≤ q)
+  along : (path : List ℕ) (steps k from to p : ℕ) → IsInstantPath diagram (attributes_of diagram) path
+      → slice_get path k ≡ Some from → slice_get path (steps + k) ≡ Some to → period from ≡ Some p
+      → (q : ℕ) × (period to ≡ Some q) × (p ≤ q)
   along path zero k from to p leads at end is =
       let here : 0 + k ≡ k = omega arith in
       let same : from ≡ to = same_Some from to (sym at ∙ ap (slice_get path) (sym here) ∙ end) in
@@ -81,7 +83,8 @@ module _ (diagram : Diagram) (plan : Resolved) (checked : IsChecked diagram) whe
       (more.0, more.1, omega (arith, low, high))
 
   -- before an edge from another period no block on a path has the period that it leads to
-  none_before : (path : List ℕ) (source place : ℕ) → EndsWith diagram (attributes_of diagram) path source → Leads source place → (period source ≡ period place → ⊥) → count_by (counts (period place)) path ≡ 0
+  none_before : (path : List ℕ) (source place : ℕ) → EndsWith diagram (attributes_of diagram) path source
+      → Leads source place → (period source ≡ period place → ⊥) → count_by (counts (period place)) path ≡ 0
   none_before path source place ends now differ = none_counted (counts (period place)) path (λ k x at. uncounted k x at (cases_Bool (counts (period place) x)))
     where
       uncounted : (k x : ℕ) → slice_get path k ≡ Some x → (counts (period place) x ≡ true) ⊎ (counts (period place) x ≡ false) → counts (period place) x ≡ false
@@ -112,7 +115,10 @@ module _ (diagram : Diagram) (plan : Resolved) (checked : IsChecked diagram) whe
       go true false e = absurd (false≢true e)
       go false y e = refl
 
-  module _ (depth : ℕ → ℕ) (place best : ℕ) (deep : (source : ℕ) → Leads source place → IsDepth diagram (attributes_of diagram) plan source (depth source)) (is_best : IsBest diagram (attributes_of diagram) depth place best) where
+  module _ (depth : ℕ → ℕ) (place best : ℕ)
+      (deep : (source : ℕ) → Leads source place
+      → IsDepth diagram (attributes_of diagram) plan source (depth source))
+      (is_best : IsBest diagram (attributes_of diagram) depth place best) where
     -- a path that ends with the block counts no more
     at_most : (path : List ℕ) → EndsWith diagram (attributes_of diagram) path place → count_by (counts (period place)) path ≤ best + own_count place
     at_most path ends = go ends.last refl

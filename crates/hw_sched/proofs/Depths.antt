@@ -53,7 +53,9 @@ parted edges block ordered i j d low within is =
     let less = ltb-true (get_or edges j d).to block is in
     lt-ltb (get_or edges i d).to block (omega (arith, rises, less))
 
-pub first_is : (edges : List Edge) (block first : ℕ) → first ≤ length edges → IsPartitionPoint (λ (edge : Edge). nat_lt edge.to block ≡ true) (λ (edge : Edge). nat_lt edge.to block ≡ false) edges first → IsFirstInto edges block first
+pub first_is : (edges : List Edge) (block first : ℕ) → first ≤ length edges
+    → IsPartitionPoint (λ (edge : Edge). nat_lt edge.to block ≡ true)
+    (λ (edge : Edge). nat_lt edge.to block ≡ false) edges first → IsFirstInto edges block first
 first_is edges block first within point = record {
   within = within;
   before = λ k edge below at.
@@ -71,13 +73,17 @@ first_is edges block first within point = record {
 pub greatest_none : (IsRead : ℕ → Type 0) (depths : List ℕ) → ((source : ℕ) → IsRead source → ⊥) → IsGreatest IsRead depths 0
 greatest_none IsRead depths none = record { reached = inl refl; most = λ source is. absurd (none source is) }
 
-pub greatest_as : (IsRead IsSeen : ℕ → Type 0) (depths : List ℕ) (best : ℕ) → ((source : ℕ) → IsRead source → IsSeen source) → ((source : ℕ) → IsSeen source → IsRead source) → IsGreatest IsRead depths best → IsGreatest IsSeen depths best
+pub greatest_as : (IsRead IsSeen : ℕ → Type 0) (depths : List ℕ) (best : ℕ)
+    → ((source : ℕ) → IsRead source → IsSeen source) → ((source : ℕ) → IsSeen source → IsRead source)
+    → IsGreatest IsRead depths best → IsGreatest IsSeen depths best
 greatest_as IsRead IsSeen depths best to back is = record {
   reached = elim is.reached [ inl none ↦ inl none | inr some ↦ inr (some.0, to some.0 some.1, some.2) ];
   most = λ source seen. is.most source (back source seen);
 }
 
-pub greatest_either : (IsRead IsSeen : ℕ → Type 0) (depths : List ℕ) (best other : ℕ) → IsGreatest IsRead depths best → IsGreatest IsSeen depths other → IsGreatest (λ source. IsRead source ⊎ IsSeen source) depths (max best other)
+pub greatest_either : (IsRead IsSeen : ℕ → Type 0) (depths : List ℕ) (best other : ℕ)
+    → IsGreatest IsRead depths best → IsGreatest IsSeen depths other
+    → IsGreatest (λ source. IsRead source ⊎ IsSeen source) depths (max best other)
 greatest_either IsRead IsSeen depths best other first second = record {
   reached = elim (cases_lt best other) [
     | inl less ↦ let e : other ≡ max best other = omega (arith, less) in elim second.reached [
@@ -96,12 +102,20 @@ greatest_either IsRead IsSeen depths best other first second = record {
 }
 
 -- one more source is met
-greatest_more : (IsRead IsSeen : ℕ → Type 0) (depths : List ℕ) (best met : ℕ) → ((source : ℕ) → IsRead source → IsSeen source) → ((source : ℕ) → IsSeen source → IsRead source ⊎ (source ≡ met)) → IsSeen met → IsGreatest IsRead depths best
+greatest_more : (IsRead IsSeen : ℕ → Type 0) (depths : List ℕ) (best met : ℕ)
+    → ((source : ℕ) → IsRead source → IsSeen source)
+    → ((source : ℕ) → IsSeen source → IsRead source ⊎ (source ≡ met)) → IsSeen met
+    → IsGreatest IsRead depths best
     → IsGreatest IsSeen depths (max best (depth_at depths met))
 greatest_more IsRead IsSeen depths best met to back seen is =
     greatest_as (λ source. IsRead source ⊎ (source ≡ met)) IsSeen depths (max best (depth_at depths met))
     (λ source either. elim either [ inl read ↦ to source read | inr same ↦ subst IsSeen (sym same) seen ]) back
-    (greatest_either IsRead (λ source. source ≡ met) depths best (depth_at depths met) is (record { reached = inr (met, refl, refl); most = λ source same. let e = ap (depth_at depths) same in omega (arith, e) }))
+    (greatest_either IsRead (λ source. source ≡ met) depths best (depth_at depths met) is
+    (record {
+      reached = inr (met, refl, refl);
+      most =
+          λ source same. let e = ap (depth_at depths) same in omega (arith, e);
+    }))
 
 -- ---- lines
 
@@ -110,10 +124,21 @@ module _ (diagram : Diagram) (place : ℕ) where
   LineFrom count source = IsLineFrom diagram count place source
 
   pub lines_begin : (depths : List ℕ) (first : ℕ) → IsFirstInto diagram.edges place first → IsGreatest (LineFrom first) depths 0
-  lines_begin depths first is = greatest_none (LineFrom first) depths (λ source line. let low = is.before line.number line.line line.before line.at in let to = line.to in absurd (omega (arith, low, to)))
+  lines_begin depths first is = greatest_none (LineFrom first) depths
+      (λ source line. let low = is.before line.number line.line line.before line.at in let to =
+      line.to in absurd (omega (arith, low, to)))
 
   line_more : (count source : ℕ) → LineFrom count source → LineFrom (count + 1) source
-  line_more count source line = record { number = line.number; line = line.line; at = line.at; before = let low = line.before in omega (arith, low); to = line.to; from = line.from; period = line.period }
+  line_more count source line = record {
+    number = line.number;
+    line = line.line;
+    at = line.at;
+    before = let low =
+        line.before in omega (arith, low);
+    to = line.to;
+    from = line.from;
+    period = line.period;
+  }
 
   line_last : (count source : ℕ) (edge : Edge) → slice_get diagram.edges count ≡ Some edge → LineFrom (count + 1) source → LineFrom count source ⊎ (source ≡ edge.from)
   line_last count source edge at line = elim (cases_lt line.number count) [
@@ -126,13 +151,26 @@ module _ (diagram : Diagram) (place : ℕ) where
   ]
 
   pub line_counts : (depths : List ℕ) (count best : ℕ) (edge : Edge) → slice_get diagram.edges count ≡ Some edge → edge.to ≡ place
-      → is_same_period ((attributes_of diagram).period_at edge.from) ((attributes_of diagram).period_at place) ≡ true → IsGreatest (LineFrom count) depths best → IsGreatest (LineFrom (count + 1)) depths (max best (depth_at depths edge.from))
+      → is_same_period ((attributes_of diagram).period_at edge.from) ((attributes_of diagram).period_at place)
+      ≡ true → IsGreatest (LineFrom count) depths best
+      → IsGreatest (LineFrom (count + 1)) depths (max best (depth_at depths edge.from))
   line_counts depths count best edge at to same is =
       greatest_more (LineFrom count) (LineFrom (count + 1)) depths best edge.from (line_more count) (λ source line. line_last count source edge at line)
-      (record { number = count; line = edge; at = at; before = omega arith; to = to; from = refl; period = period_is ((attributes_of diagram).period_at edge.from) ((attributes_of diagram).period_at place) same }) is
+      (record {
+        number = count;
+        line = edge;
+        at = at;
+        before = omega arith;
+        to = to;
+        from = refl;
+        period =
+            period_is ((attributes_of diagram).period_at edge.from) ((attributes_of diagram).period_at place) same;
+      })
+      is
 
   pub line_skips : (depths : List ℕ) (count best : ℕ) (edge : Edge) → slice_get diagram.edges count ≡ Some edge
-      → is_same_period ((attributes_of diagram).period_at edge.from) ((attributes_of diagram).period_at place) ≡ false → IsGreatest (LineFrom count) depths best → IsGreatest (LineFrom (count + 1)) depths best
+      → is_same_period ((attributes_of diagram).period_at edge.from) ((attributes_of diagram).period_at place)
+      ≡ false → IsGreatest (LineFrom count) depths best → IsGreatest (LineFrom (count + 1)) depths best
   line_skips depths count best edge at differs is = greatest_as (LineFrom count) (LineFrom (count + 1)) depths best (line_more count) (λ source line. elim (line_last count source edge at line) [
     | inl before ↦ before
     | inr same ↦
@@ -142,25 +180,50 @@ module _ (diagram : Diagram) (place : ℕ) where
   ]) is
 
   line_within : (count source : ℕ) → LineFrom count source → LineFrom (length diagram.edges) source
-  line_within count source line = record { number = line.number; line = line.line; at = line.at; before = slice_get_within diagram.edges line.number line.line line.at; to = line.to; from = line.from; period = line.period }
+  line_within count source line = record {
+    number = line.number;
+    line = line.line;
+    at = line.at;
+    before =
+        slice_get_within diagram.edges line.number line.line line.at;
+    to =
+        line.to;
+    from = line.from;
+    period = line.period;
+  }
 
   pub lines_end : (depths : List ℕ) (count best : ℕ) → length diagram.edges ≤ count → IsGreatest (LineFrom count) depths best → IsGreatest (LineFrom (length diagram.edges)) depths best
-  lines_end depths count best end is = greatest_as (LineFrom count) (LineFrom (length diagram.edges)) depths best (line_within count) (λ source line. record { number = line.number; line = line.line; at = line.at; before = let low = line.before in omega (arith, low, end); to = line.to; from = line.from; period = line.period }) is
+  lines_end depths count best end is = greatest_as (LineFrom count) (LineFrom (length diagram.edges)) depths best
+      (line_within count) (λ source line. record {
+        number = line.number;
+        line = line.line;
+        at = line.at;
+        before =
+            let low = line.before in omega (arith, low, end);
+        to = line.to;
+        from = line.from;
+        period = line.period;
+      })
+      is
 
   -- behind a line into a later block no line leads to this one
-  pub lines_stop : (depths : List ℕ) (first count best : ℕ) (edge : Edge) → AllPairs StandsBefore diagram.edges → IsFirstInto diagram.edges place first → first ≤ count → slice_get diagram.edges count ≡ Some edge → (edge.to ≡ place → ⊥)
+  pub lines_stop : (depths : List ℕ) (first count best : ℕ) (edge : Edge) → AllPairs StandsBefore diagram.edges
+      → IsFirstInto diagram.edges place first → first ≤ count → slice_get diagram.edges count ≡ Some edge
+      → (edge.to ≡ place → ⊥)
       → IsGreatest (LineFrom count) depths best → IsGreatest (LineFrom (length diagram.edges)) depths best
-  lines_stop depths first count best edge ordered is_first past at differs is = greatest_as (LineFrom count) (LineFrom (length diagram.edges)) depths best (line_within count) (λ source line. elim (cases_lt line.number count) [
-    | inl less ↦ record { number = line.number; line = line.line; at = line.at; before = less; to = line.to; from = line.from; period = line.period }
-    | inr behind ↦
-        let rises = first_rises diagram.edges ordered count line.number edge behind (slice_get_within diagram.edges line.number line.line line.at) in
-        let here : (get_or diagram.edges count edge).to ≡ edge.to = ap (λ (x : Edge). x.to) (get_or_from_slice_get diagram.edges count edge edge at) in
-        let there : (get_or diagram.edges line.number edge).to ≡ line.line.to = ap (λ (x : Edge). x.to) (get_or_from_slice_get diagram.edges line.number line.line edge line.at) in
-        let low = is_first.behind count edge past at in
-        let to = line.to in
-        let equal : edge.to ≡ place = omega (arith, rises, here, there, low, to) in
-        absurd (differs equal)
-  ]) is
+  lines_stop depths first count best edge ordered is_first past at differs is =
+      greatest_as (LineFrom count) (LineFrom (length diagram.edges)) depths best (line_within count)
+      (λ source line. elim (cases_lt line.number count) [
+        | inl less ↦ record { number = line.number; line = line.line; at = line.at; before = less; to = line.to; from = line.from; period = line.period }
+        | inr behind ↦
+            let rises = first_rises diagram.edges ordered count line.number edge behind (slice_get_within diagram.edges line.number line.line line.at) in
+            let here : (get_or diagram.edges count edge).to ≡ edge.to = ap (λ (x : Edge). x.to) (get_or_from_slice_get diagram.edges count edge edge at) in
+            let there : (get_or diagram.edges line.number edge).to ≡ line.line.to = ap (λ (x : Edge). x.to) (get_or_from_slice_get diagram.edges line.number line.line edge line.at) in
+            let low = is_first.behind count edge past at in
+            let to = line.to in
+            let equal : edge.to ≡ place = omega (arith, rises, here, there, low, to) in
+            absurd (differs equal)
+      ]) is
 
   -- ---- where lines and controls begin
   pub from_there : (number : ℕ) (edge : Edge) → IsWired diagram → slice_get diagram.edges number ≡ Some edge → edge.from < length diagram.blocks
@@ -171,7 +234,9 @@ module _ (diagram : Diagram) (place : ℕ) where
       go (Some b) e h = slice_get_within diagram.blocks edge.from b e
 
   pub control_there : (b : Block) (control : ℕ) → IsWired diagram → slice_get diagram.blocks place ≡ Some b → control_now b ≡ Some control → control < length diagram.blocks
-  control_there b control wired at is = go (slice_get diagram.blocks control) refl (subst (λ (o : Option ℕ). NamesControl diagram.blocks o) (enabled (asks_now b.kind) b.enable is) (held (λ (x : Block). NamesControl diagram.blocks x.enable) diagram.blocks place b wired.controls at))
+  control_there b control wired at is = go (slice_get diagram.blocks control) refl
+      (subst (λ (o : Option ℕ). NamesControl diagram.blocks o) (enabled (asks_now b.kind) b.enable is)
+      (held (λ (x : Block). NamesControl diagram.blocks x.enable) diagram.blocks place b wired.controls at))
     where
       enabled : (asks : Bool) (enable : Option ℕ) → cond asks enable None ≡ Some control → enable ≡ Some control
       enabled true enable e = e
@@ -207,7 +272,9 @@ module _ (diagram : Diagram) (checked : IsChecked diagram) where
   period place = (attributes_of diagram).period_at place
 
   -- a line that is read from a block of one's period is instant
-  line_instant : (number : ℕ) (line : Edge) (b : Block) → slice_get diagram.edges number ≡ Some line → slice_get diagram.blocks line.to ≡ Some b → period line.from ≡ period line.to → is_now (row_of b.kind).timing.reads false ≡ true
+  line_instant : (number : ℕ) (line : Edge) (b : Block) → slice_get diagram.edges number ≡ Some line
+      → slice_get diagram.blocks line.to ≡ Some b → period line.from ≡ period line.to
+      → is_now (row_of b.kind).timing.reads false ≡ true
       → IsInstant diagram (attributes_of diagram) (signal_edge line)
   line_instant number line b at there same now = ap (takes_now_at diagram (attributes_of diagram) (signal_edge line)) there ∙ go (period line.to) refl
     where
@@ -217,7 +284,9 @@ module _ (diagram : Diagram) (checked : IsChecked diagram) where
       by_reading Reading.BeforeIfSlower slower h e = ap not e
 
       go : (own : Option ℕ) → period line.to ≡ own → reads_now diagram (attributes_of diagram) line.to b.kind ≡ true
-      go None e = by_reading (row_of b.kind).timing.reads (is_slow_to_fast (period_into diagram (attributes_of diagram) line.to 1) (period line.to)) now (not_faster (period_into diagram (attributes_of diagram) line.to 1) (period line.to) e)
+      go None e = by_reading (row_of b.kind).timing.reads
+          (is_slow_to_fast (period_into diagram (attributes_of diagram) line.to 1) (period line.to)) now
+          (not_faster (period_into diagram (attributes_of diagram) line.to 1) (period line.to) e)
       go (Some own) e =
           let edge = line_is_edge diagram number line at in
           let joins = edges_join_periods diagram edge.0 (signal_edge line) b own checked edge.1 there (same ∙ e) in
@@ -279,7 +348,9 @@ module _ (diagram : Diagram) (plan : Resolved) (order : List ℕ) (checked : IsC
   pub depths_begin : (depths : List ℕ) → length depths ≡ length diagram.blocks → ((place : ℕ) → depth_at depths place ≡ 0) → AreDepthsTo diagram plan order 0 depths
   depths_begin depths size none = record { size = size; are = λ k place below at. absurd (omega (arith, below)); small = λ place. let e = none place in omega (arith, e) }
 
-  next_is : (count place depth : ℕ) (depths : List ℕ) → slice_get order count ≡ Some place → IsNextDepth diagram plan depths place depth → AreDepthsTo diagram plan order count depths → IsDepth diagram (attributes_of diagram) plan place depth
+  next_is : (count place depth : ℕ) (depths : List ℕ) → slice_get order count ≡ Some place
+      → IsNextDepth diagram plan depths place depth → AreDepthsTo diagram plan order count depths
+      → IsDepth diagram (attributes_of diagram) plan place depth
   next_is count place depth depths at next to =
       let best : IsBest diagram (attributes_of diagram) (depth_at depths) place next.best = record {
         reached = elim next.greatest.reached [
@@ -288,7 +359,9 @@ module _ (diagram : Diagram) (plan : Resolved) (order : List ℕ) (checked : IsC
         ];
         most = λ source leads same. next.greatest.most source (leads_read diagram checked place source leads same);
       } in
-      let deep = depth_is diagram plan checked (depth_at depths) place next.best (λ source leads. let before = ordered.after count place source at leads in to.are before.0 source before.1 before.2) best in
+      let deep = depth_is diagram plan checked (depth_at depths) place next.best
+      (λ source leads. let before = ordered.after count place source at leads in
+      to.are before.0 source before.1 before.2) best in
       subst (λ (d : ℕ). IsDepth diagram (attributes_of diagram) plan place d) (sym (next.is ∙ sum (is_shared diagram (attributes_of diagram) plan place))) deep
     where
       sum : (shared : Bool) → own_depth shared next.best ≡ next.best + cond shared 1 0
@@ -305,7 +378,9 @@ module _ (diagram : Diagram) (plan : Resolved) (order : List ℕ) (checked : IsC
       go true e = let low = best_small in omega (arith, e, low)
       go false e = let low = best_small in omega (arith, e, low)
 
-  pub depths_more : (count place depth : ℕ) (depths : List ℕ) → slice_get order count ≡ Some place → place < length diagram.blocks → IsNextDepth diagram plan depths place depth → AreDepthsTo diagram plan order count depths
+  pub depths_more : (count place depth : ℕ) (depths : List ℕ) → slice_get order count ≡ Some place
+      → place < length diagram.blocks → IsNextDepth diagram plan depths place depth
+      → AreDepthsTo diagram plan order count depths
       → AreDepthsTo diagram plan order (count + 1) (slice_set depths place depth)
   depths_more count place depth depths at there next to =
       let size = to.size in

@@ -84,7 +84,9 @@ module _ (diagram : Diagram) (plan : Resolved) (timing : Timing) where
   abbrev start : ℕ → ℕ
   start p = start_of diagram attributes plan p
 
-  period_of_level : (p : ℕ) (o : Operation) (number : ℕ) (test : Bool) → IsOperation diagram attributes plan number o → (period o.block == p) ≡ test → 0 < cond test (suc (level_of timing o)) 0 → IsPeriodOf diagram p
+  period_of_level : (p : ℕ) (o : Operation) (number : ℕ) (test : Bool)
+      → IsOperation diagram attributes plan number o → (period o.block == p) ≡ test
+      → 0 < cond test (suc (level_of timing o)) 0 → IsPeriodOf diagram p
   period_of_level p o number true at e some =
       let has = have_periods diagram attributes plan number o at in
       let same : has.0 ≡ p = sym (ap samples has.1) ∙ eqb-true (period o.block) p e in
@@ -155,7 +157,9 @@ module _ (diagram : Diagram) (plan : Resolved) (timing : Timing) where
         starts = record {
           size = by.starts.size ∙ length-map all (cell_of diagram attributes plan timing);
           are = λ number o at.
-              by.starts.are number (cell_of diagram attributes plan timing o) (span_of diagram plan (period o.block)) (below number o at) (cell_at number o at) (span_at (period o.block) (period_below o.block))
+              by.starts.are number (cell_of diagram attributes plan timing o)
+              (span_of diagram plan (period o.block)) (below number o at) (cell_at number o at)
+              (span_at (period o.block) (period_below o.block))
               ∙ ap (λ (k : ℕ). Some (slot_in cells k (start (period o.block)) number (cell_of diagram attributes plan timing o))) (multipliers_are number o at)
               ∙ ap (λ (n : ℕ). Some n) ((numbered diagram attributes plan timing).slots number o at);
         };
@@ -203,8 +207,13 @@ module _ (diagram : Diagram) (plan : Resolved) (timing : Timing) where
       breaks p need have short = breaks_by p need have (subst (λ (cs : List Cell). IsShort cs multipliers spans p need have) are.listed short)
 
 -- a fault of these operations is one of the diagram
-pub fault_told : (diagram : Diagram) (plan : Resolved) (latencies : Latencies) (depths : List ℕ) → IsTimingOf diagram plan (timing_of latencies depths) → (multipliers : ℕ) → (0 < plan.multipliers → multipliers ≡ plan.multipliers)
-    → (made_cells : Cells) → AreCells diagram plan (timing_of latencies depths) made_cells → (spans : List Span) → AreSpans diagram plan spans → (fault : SlotFault) → IsSlotFault made_cells.operations.items multipliers spans fault → IsBudgetFault diagram plan latencies fault
+pub fault_told : (diagram : Diagram) (plan : Resolved) (latencies : Latencies) (depths : List ℕ)
+    → IsTimingOf diagram plan (timing_of latencies depths) → (multipliers : ℕ)
+    → (0 < plan.multipliers → multipliers ≡ plan.multipliers)
+    → (made_cells : Cells) → AreCells diagram plan (timing_of latencies depths) made_cells → (spans : List Span)
+    → AreSpans diagram plan spans → (fault : SlotFault)
+    → IsSlotFault made_cells.operations.items multipliers spans fault
+    → IsBudgetFault diagram plan latencies fault
 fault_told diagram plan latencies depths timed multipliers is made_cells are spans spanned (Short period need have) short = record {
   depths = depths;
   timed = timed;
@@ -214,7 +223,9 @@ fault_told diagram plan latencies depths timed multipliers is made_cells are spa
 
 -- ---- the whole answer
 
-pub timed_by : (diagram : Diagram) (plan : Resolved) (latencies : Latencies) (depths shown : List ℕ) → shown ≡ depths → AreLatencies diagram plan latencies → AreDepths diagram (attributes_of diagram) plan depths → IsTimingOf diagram plan (timing_of latencies shown)
+pub timed_by : (diagram : Diagram) (plan : Resolved) (latencies : Latencies) (depths shown : List ℕ)
+    → shown ≡ depths → AreLatencies diagram plan latencies → AreDepths diagram (attributes_of diagram) plan depths
+    → IsTimingOf diagram plan (timing_of latencies shown)
 timed_by diagram plan latencies depths shown same late deep = record {
   fed = late.fed;
   depths = subst (AreDepths diagram (attributes_of diagram) plan) (sym same) deep;
@@ -222,8 +233,12 @@ timed_by diagram plan latencies depths shown same late deep = record {
   lat = late.least;
 }
 
-pub slots_are : (diagram : Diagram) (plan : Resolved) (latencies : Latencies) (depths shown : List ℕ) (made : Made) (ready : List ℕ) → shown ≡ depths → AreLatencies diagram plan latencies → AreDepths diagram (attributes_of diagram) plan depths
-    → IsServed diagram plan (timing_of latencies shown) made → ((other : Resolved) → AreBases diagram other (timing_of latencies shown) made.bases → AreReady diagram other (timing_of latencies shown) ready)
+pub slots_are : (diagram : Diagram) (plan : Resolved) (latencies : Latencies) (depths shown : List ℕ) (made : Made)
+    (ready : List ℕ) → shown ≡ depths → AreLatencies diagram plan latencies
+    → AreDepths diagram (attributes_of diagram) plan depths
+    → IsServed diagram plan (timing_of latencies shown) made
+    → ((other : Resolved) → AreBases diagram other (timing_of latencies shown) made.bases
+    → AreReady diagram other (timing_of latencies shown) ready)
     → AreSlots diagram plan latencies (record { starts = made.starts; units = made.units; ready = ready; depths = depths })
 slots_are diagram plan latencies depths shown made ready same late deep served readied =
     let by = subst (λ (list : List ℕ). IsServed diagram plan (timing_of latencies list) made) same served in

@@ -40,7 +40,9 @@ pub found_only : {A : Type 0} (p : A → Bool) (xs : List A) (k : ℕ) (x : A) �
 found_only p [] k x one at is = absurd (none-some x at)
 found_only {A} p (y ∷ xs) k x one at is = go (p y) refl (λ j once later. found_only p xs j x once later is) (sum_by-cons (λ x. cond (p x) 1 0) y xs) k at
   where
-    go : (b : Bool) → p y ≡ b → ((j : ℕ) → count_by p xs ≡ 1 → slice_get xs j ≡ Some x → find p xs ≡ Some x) → count_by p (y ∷ xs) ≡ cond b 1 0 + count_by p xs → (k : ℕ) → slice_get (y ∷ xs) k ≡ Some x → cond b (Some y) (find p xs) ≡ Some x
+    go : (b : Bool) → p y ≡ b → ((j : ℕ) → count_by p xs ≡ 1 → slice_get xs j ≡ Some x → find p xs ≡ Some x)
+        → count_by p (y ∷ xs) ≡ cond b 1 0 + count_by p xs → (k : ℕ) → slice_get (y ∷ xs) k ≡ Some x
+        → cond b (Some y) (find p xs) ≡ Some x
     go true passes rest sums zero at = at
     go true passes rest sums (suc j) at = let more = some_counted p xs j x at is in absurd (omega (arith, one, sums, more))
     go false fails rest sums zero at = absurd (false≢true (sym fails ∙ ap p (same_Some y x at) ∙ is))
@@ -72,7 +74,9 @@ line_is_edge diagram number line at =
 abbrev pub control_edge : ℕ → ℕ → LatencyEdge
 control_edge control place = record { from = control; from_port = 1; to = place; target = Enable }
 
-enabling : (from : ℕ) (blocks : List Block) (k : ℕ) (b : Block) (control : ℕ) → slice_get blocks k ≡ Some b → b.enable ≡ Some control → asks_ever (row_of b.kind).timing.asks ≡ true → Stands (enable_edges_from from blocks) (control_edge control (from + k))
+enabling : (from : ℕ) (blocks : List Block) (k : ℕ) (b : Block) (control : ℕ) → slice_get blocks k ≡ Some b
+    → b.enable ≡ Some control → asks_ever (row_of b.kind).timing.asks ≡ true
+    → Stands (enable_edges_from from blocks) (control_edge control (from + k))
 enabling from [] k b control at is asks = absurd (none-some b at)
 enabling from (x ∷ blocks) zero b control at is asks =
     let same : x ≡ b = same_Some x b at in
@@ -86,7 +90,9 @@ enabling from (x ∷ blocks) zero b control at is asks =
     go true (Some other) holds e = ap (λ (n : ℕ). Some (control_edge n from)) (same_Some other control e)
     go false (Some other) holds e = absurd (false≢true holds)
 enabling from (x ∷ blocks) (suc k) b control at is asks =
-    let later = stands_right (enable_edge from (asks_ever (row_of x.kind).timing.asks) x.enable) (enable_edges_from (suc from) blocks) (control_edge control (suc from + k)) (enabling (suc from) blocks k b control at is asks) in
+    let later = stands_right (enable_edge from (asks_ever (row_of x.kind).timing.asks) x.enable)
+    (enable_edges_from (suc from) blocks) (control_edge control (suc from + k))
+    (enabling (suc from) blocks k b control at is asks) in
     let here : suc from + k ≡ from + suc k = omega arith in
     subst (λ (n : ℕ). Stands (enable_edges_from from (x ∷ blocks)) (control_edge control n)) here later
 
@@ -115,7 +121,9 @@ pub record IsEnabling (from : ℕ) (blocks : List Block) (edge : LatencyEdge) : 
   pub asks : asks_ever (row_of block.kind).timing.asks ≡ true
   pub is : ◌≡◌ {A = LatencyEdge} edge (control_edge control (from + place))
 
-line_there : (lines : List Edge) (k : ℕ) (edge : LatencyEdge) → slice_get (map signal_edge lines) k ≡ Some edge → (place : ℕ) × (line : Edge) × (slice_get lines place ≡ Some line) × (◌≡◌ {A = LatencyEdge} edge (signal_edge line))
+line_there : (lines : List Edge) (k : ℕ) (edge : LatencyEdge) → slice_get (map signal_edge lines) k ≡ Some edge
+    → (place : ℕ) × (line : Edge) × (slice_get lines place ≡ Some line)
+    × (◌≡◌ {A = LatencyEdge} edge (signal_edge line))
 line_there [] k edge at = absurd (none-some edge at)
 line_there (line ∷ lines) zero edge at = (0, line, refl, sym (same_Some (signal_edge line) edge at))
 line_there (line ∷ lines) (suc k) edge at = let more = line_there lines k edge at in (suc more.0, more.1, more.2, more.3)
@@ -130,7 +138,8 @@ enabling_there from (x ∷ blocks) k edge at = elim (stands_either (enable_edge 
       record { place = suc more.place; block = more.block; control = more.control; at = more.at; enable = more.enable; asks = more.asks; is = more.is ∙ ap (control_edge more.control) place }
 ]
   where
-    go : (a : Bool) (enable : Option ℕ) → asks_ever (row_of x.kind).timing.asks ≡ a → x.enable ≡ enable → (j : ℕ) → slice_get (enable_edge from a enable) j ≡ Some edge → IsEnabling from (x ∷ blocks) edge
+    go : (a : Bool) (enable : Option ℕ) → asks_ever (row_of x.kind).timing.asks ≡ a → x.enable ≡ enable → (j : ℕ)
+        → slice_get (enable_edge from a enable) j ≡ Some edge → IsEnabling from (x ∷ blocks) edge
     go a None p q j at = absurd (none-some edge at)
     go false (Some control) p q j at = absurd (none-some edge at)
     go true (Some control) p q (suc j) at = absurd (none-some edge at)
@@ -147,7 +156,9 @@ edge_cases diagram number edge at = elim (stands_either (map signal_edge diagram
 -- ---- the driver of a port
 
 -- a line ends at a port of its block
-pub ends_at : (diagram : Diagram) → IsWired diagram → (place : ℕ) (line : Edge) (b : Block) → slice_get diagram.edges place ≡ Some line → slice_get diagram.blocks line.to ≡ Some b → (1 ≤ line.to_port) × (line.to_port ≤ b.inputs)
+pub ends_at : (diagram : Diagram) → IsWired diagram → (place : ℕ) (line : Edge) (b : Block)
+    → slice_get diagram.edges place ≡ Some line → slice_get diagram.blocks line.to ≡ Some b
+    → (1 ≤ line.to_port) × (line.to_port ≤ b.inputs)
 ends_at diagram wired place line b at is = go (slice_get diagram.blocks line.to) is (held (Joins diagram.blocks) diagram.edges place line wired.edges at).target
   where
     go : (o : Option Block) → o ≡ Some b → MatchOption o ⊥ (λ (x : Block). (1 ≤ line.to_port) × (line.to_port ≤ x.inputs)) → (1 ≤ line.to_port) × (line.to_port ≤ b.inputs)
@@ -155,7 +166,9 @@ ends_at diagram wired place line b at is = go (slice_get diagram.blocks line.to)
     go (Some x) e h = subst (λ (y : Block). (1 ≤ line.to_port) × (line.to_port ≤ y.inputs)) (same_Some x b e) h
 
 -- and drives it
-pub drives : (diagram : Diagram) → IsWired diagram → (place : ℕ) (line : Edge) (b : Block) → slice_get diagram.edges place ≡ Some line → slice_get diagram.blocks line.to ≡ Some b → driver_of diagram line.to line.to_port ≡ Some line
+pub drives : (diagram : Diagram) → IsWired diagram → (place : ℕ) (line : Edge) (b : Block)
+    → slice_get diagram.edges place ≡ Some line → slice_get diagram.blocks line.to ≡ Some b
+    → driver_of diagram line.to line.to_port ≡ Some line
 drives diagram wired place line b at is =
     let ends = ends_at diagram wired place line b at is in
     found_only (enters line.to line.to_port) diagram.edges place line (wired.driven line.to line.to_port b is ends.0 ends.1) at

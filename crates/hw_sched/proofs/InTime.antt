@@ -21,7 +21,9 @@ edges_are_in_time diagram plan timing number edge b source own checked timed is_
     ap (arc_from diagram (attributes_of diagram) plan timing.fed edge.from edge.to) from_is
     ∙ ap (λ (n : ℕ). arc_into edge.from edge.to (is_marked timing.fed edge.from) (stages_at plan edge.from) source n (slice_get diagram.blocks edge.to)) (ap samples to_is)
     ∙ ap (arc_into edge.from edge.to (is_marked timing.fed edge.from) (stages_at plan edge.from) source own) at in
-    let keeps = timed.lat.feasible.keeps number (arc_of diagram (attributes_of diagram) plan timing.fed edge) (there_map (arc_of diagram (attributes_of diagram) plan timing.fed) (latency_edges diagram) number edge is_edge) in
+    let keeps = timed.lat.feasible.keeps number (arc_of diagram (attributes_of diagram) plan timing.fed edge)
+    (there_map (arc_of diagram (attributes_of diagram) plan timing.fed)
+    (latency_edges diagram) number edge is_edge) in
     let kept = subst (KeepsArc timing.lat) arc keeps refl in
     let above = periods_are_above diagram edge.from source checked from_is in
     record {

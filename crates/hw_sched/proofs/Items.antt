@@ -37,7 +37,9 @@ rest_past {A} all xs first index same within past =
     let many = ap (λ (ys : List A). length ys) same in
     omega (arith, past, size, within, many)
 
-pub rest_read : {A : Type 0} (all xs : List A) (first index : ℕ) (d : A) → xs ≡ all → index < length (take (length xs - first) (drop first xs)) → slice_get all (first + index) ≡ Some (get_or (take (length xs - first) (drop first xs)) index d)
+pub rest_read : {A : Type 0} (all xs : List A) (first index : ℕ) (d : A) → xs ≡ all
+    → index < length (take (length xs - first) (drop first xs))
+    → slice_get all (first + index) ≡ Some (get_or (take (length xs - first) (drop first xs)) index d)
 rest_read {A} all xs first index d same within =
     ap (λ (ys : List A). slice_get ys (first + index)) (sym same) ∙ sym (get_drop first xs index)
     ∙ taken_from (length xs - first) (drop first xs) index (get_or (take (length xs - first) (drop first xs)) index d)
@@ -50,13 +52,18 @@ pub tested : (p q own other : Option ℕ) (b v : Bool) → p ≡ own → q ≡ o
 tested p q own other b v e f is at = ap (λ (x : Option ℕ). is_same_period x other) (sym e) ∙ ap (is_same_period p) (sym f) ∙ sym is ∙ at
 
 pub next_counts : (diagram : Diagram) (place : ℕ) (depths : List ℕ) (first index best : ℕ) (edge : Edge) → slice_get diagram.edges (first + index) ≡ Some edge → edge.to ≡ place
-    → is_same_period ((attributes_of diagram).period_at edge.from) ((attributes_of diagram).period_at place) ≡ true → IsGreatest (IsLineFrom diagram (first + index) place) depths best → IsGreatest (IsLineFrom diagram (first + (index + 1)) place) depths (max best (depth_at depths edge.from))
+    → is_same_period ((attributes_of diagram).period_at edge.from) ((attributes_of diagram).period_at place) ≡ true
+    → IsGreatest (IsLineFrom diagram (first + index) place) depths best
+    → IsGreatest (IsLineFrom diagram (first + (index + 1)) place) depths
+    (max best (depth_at depths edge.from))
 next_counts diagram place depths first index best edge at to same is =
     let e : first + index + 1 ≡ first + (index + 1) = omega arith in
     subst (λ (n : ℕ). IsGreatest (IsLineFrom diagram n place) depths (max best (depth_at depths edge.from))) e (line_counts diagram place depths (first + index) best edge at to same is)
 
 pub next_skips : (diagram : Diagram) (place : ℕ) (depths : List ℕ) (first index best : ℕ) (edge : Edge) → slice_get diagram.edges (first + index) ≡ Some edge
-    → is_same_period ((attributes_of diagram).period_at edge.from) ((attributes_of diagram).period_at place) ≡ false → IsGreatest (IsLineFrom diagram (first + index) place) depths best → IsGreatest (IsLineFrom diagram (first + (index + 1)) place) depths best
+    → is_same_period ((attributes_of diagram).period_at edge.from) ((attributes_of diagram).period_at place) ≡ false
+    → IsGreatest (IsLineFrom diagram (first + index) place) depths best
+    → IsGreatest (IsLineFrom diagram (first + (index + 1)) place) depths best
 next_skips diagram place depths first index best edge at differs is =
     let e : first + index + 1 ≡ first + (index + 1) = omega arith in
     subst (λ (n : ℕ). IsGreatest (IsLineFrom diagram n place) depths best) e (line_skips diagram place depths (first + index) best edge at differs is)
@@ -70,7 +77,9 @@ module _ (diagram : Diagram) (place control : ℕ) (b : Block) (depths : List �
   control_is : (source : ℕ) → IsReadControl diagram place source → control ≡ source
   control_is source read = same_Some control source (sym is ∙ ap control_now (same_Some b read.block (sym there ∙ read.there)) ∙ read.control)
 
-  pub control_one : is_same_period ((attributes_of diagram).period_at control) ((attributes_of diagram).period_at place) ≡ true → IsGreatest (IsReadControl diagram place) depths (depth_at depths control)
+  pub control_one : is_same_period ((attributes_of diagram).period_at control)
+      ((attributes_of diagram).period_at place) ≡ true
+      → IsGreatest (IsReadControl diagram place) depths (depth_at depths control)
   control_one same = record {
     reached = inr (control, record { block = b; there = there; control = is; period = period_is ((attributes_of diagram).period_at control) ((attributes_of diagram).period_at place) same }, refl);
     most = λ source read. let e = ap (depth_at depths) (control_is source read) in omega (arith, e);
@@ -84,7 +93,9 @@ module _ (diagram : Diagram) (place control : ℕ) (b : Block) (depths : List �
 
 -- ---- the next depth
 
-pub next_is : (diagram : Diagram) (plan : Resolved) (depths : List ℕ) (place lines control best depth : ℕ) (shared told : Bool) → IsGreatest (IsReadLine diagram place) depths lines → IsGreatest (IsReadControl diagram place) depths control → best ≡ max lines control
+pub next_is : (diagram : Diagram) (plan : Resolved) (depths : List ℕ) (place lines control best depth : ℕ)
+    (shared told : Bool) → IsGreatest (IsReadLine diagram place) depths lines
+    → IsGreatest (IsReadControl diagram place) depths control → best ≡ max lines control
     → shared ≡ is_shared diagram (attributes_of diagram) plan place → shared ≡ told → depth ≡ own_depth told best → IsNextDepth diagram plan depths place depth
 next_is diagram plan depths place lines control best depth shared told first second best_is shared_is told_is depth_is = record {
   best = max lines control;

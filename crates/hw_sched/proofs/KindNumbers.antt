@@ -27,7 +27,8 @@ kept_behind : (kinds : List OperationKind) (kind last : OperationKind) → HasKi
 kept_behind [] kind last has = absurd (omega (arith, has))
 kept_behind (x ∷ kinds) kind last has = go (λ has. kept_behind kinds kind last has) (is_same_kind kind x) (count_cons (is_same_kind kind) x kinds)
   where
-    go : (HasKind kinds kind → length (before_kind kind (kinds ++ last ∷ [])) ≡ length (before_kind kind kinds)) → (b : Bool) → count_by (is_same_kind kind) (x ∷ kinds) ≡ cond b 1 0 + count_by (is_same_kind kind) kinds
+    go : (HasKind kinds kind → length (before_kind kind (kinds ++ last ∷ [])) ≡ length (before_kind kind kinds))
+        → (b : Bool) → count_by (is_same_kind kind) (x ∷ kinds) ≡ cond b 1 0 + count_by (is_same_kind kind) kinds
         → length (cond b [] (x ∷ before_kind kind (kinds ++ last ∷ []))) ≡ length (cond b [] (x ∷ before_kind kind kinds))
     go rest true e = refl
     go rest false e = let more = rest (omega (arith, has, e)) in omega (arith, more)
@@ -51,7 +52,9 @@ pub number_below : (kinds : List OperationKind) (kind : OperationKind) → HasKi
 number_below [] kind has = absurd (omega (arith, has))
 number_below (x ∷ kinds) kind has = go (λ has. number_below kinds kind has) (is_same_kind kind x) (count_cons (is_same_kind kind) x kinds)
   where
-    go : (HasKind kinds kind → length (before_kind kind kinds) < length kinds) → (b : Bool) → count_by (is_same_kind kind) (x ∷ kinds) ≡ cond b 1 0 + count_by (is_same_kind kind) kinds → length (cond b [] (x ∷ before_kind kind kinds)) < suc (length kinds)
+    go : (HasKind kinds kind → length (before_kind kind kinds) < length kinds) → (b : Bool)
+        → count_by (is_same_kind kind) (x ∷ kinds) ≡ cond b 1 0 + count_by (is_same_kind kind) kinds
+        → length (cond b [] (x ∷ before_kind kind kinds)) < suc (length kinds)
     go rest true e = omega arith
     go rest false e = let more = rest (omega (arith, has, e)) in omega (arith, more)
 
@@ -121,7 +124,9 @@ module _ (kinds : List OperationKind) (kind : OperationKind) (numbers : KindNumb
         let before : count_by (is_same_kind other) kinds ≡ 0 = ap (λ (k : OperationKind). count_by (is_same_kind k) kinds) (sym same) ∙ uncounted in
         let last = none_before kinds other kind before there in
         ap (λ (n : ℕ). Some n) (are.count ∙ sym last)
-        ∙ sym (cond-true (is_in (kinds ++ kind ∷ []) other) (Some (length (before_kind other (kinds ++ kind ∷ [])))) None (lt-ltb 0 (count_by (is_same_kind other) (kinds ++ kind ∷ [])) (omega (arith, count))))
+        ∙ sym (cond-true (is_in (kinds ++ kind ∷ []) other)
+        (Some (length (before_kind other (kinds ++ kind ∷ [])))) None
+        (lt-ltb 0 (count_by (is_same_kind other) (kinds ++ kind ∷ [])) (omega (arith, count))))
 
     found_other : (other : OperationKind) → is_same_kind kind other ≡ false → number_in kinds other ≡ number_in (kinds ++ kind ∷ []) other
     found_other other is = go (is_in kinds other) refl

@@ -123,7 +123,8 @@ passes {A} p (y ∷ xs) k x at = go (λ j later. passes p xs j x later) (p y) re
     more : (p x ≡ true) × Stands xs x → (p x ≡ true) × Stands (y ∷ xs) x
     more later = (later.0, stands_later y xs x later.1)
 
-    go : ((j : ℕ) → slice_get (filter p xs) j ≡ Some x → (p x ≡ true) × Stands xs x) → (b : Bool) → p y ≡ b → (k : ℕ) → slice_get (cond b (y ∷ filter p xs) (filter p xs)) k ≡ Some x → (p x ≡ true) × Stands (y ∷ xs) x
+    go : ((j : ℕ) → slice_get (filter p xs) j ≡ Some x → (p x ≡ true) × Stands xs x) → (b : Bool) → p y ≡ b
+        → (k : ℕ) → slice_get (cond b (y ∷ filter p xs) (filter p xs)) k ≡ Some x → (p x ≡ true) × Stands (y ∷ xs) x
     go rest true e zero at = (ap p (sym (same_Some y x at)) ∙ e, record { place = 0; at = at })
     go rest true e (suc j) at = more (rest j at)
     go rest false e j at = more (rest j at)

@@ -16,7 +16,8 @@ use Rattle.hw_sched.proofs.SlotExamples.{block_of, edge_of, scalars}
 
 abbrev pub late_source : Decimal → Diagram
 late_source number = record {
-  blocks = block_of (Inport 1 0) 0 1 ∷ block_of (Inport 2 0) 0 1 ∷ block_of (Gain (number ∷ []) Auto) 1 1 ∷ block_of Product 2 1 ∷ block_of (Delay 1 (number ∷ []) false) 1 1 ∷ block_of (Outport 1) 1 0 ∷ [];
+  blocks = block_of (Inport 1 0) 0 1 ∷ block_of (Inport 2 0) 0 1 ∷ block_of (Gain (number ∷ []) Auto) 1 1
+      ∷ block_of Product 2 1 ∷ block_of (Delay 1 (number ∷ []) false) 1 1 ∷ block_of (Outport 1) 1 0 ∷ [];
   edges = edge_of 0 2 1 ∷ edge_of 2 3 1 ∷ edge_of 1 3 2 ∷ edge_of 3 4 1 ∷ edge_of 4 5 1 ∷ [];
 }
 

@@ -24,13 +24,17 @@ module _ (diagram : Diagram) (plan : Resolved) (timing : Timing) where
     pub size : length list ≡ count
     pub are : (place : ℕ) → place < count → slice_get list place ≡ Some (ready place)
 
-  pub fed_is : (bases : Bases) (place period depth number : ℕ) → AreBases diagram plan timing bases → is_marked timing.fed place ≡ true → period ≡ samples ((attributes_of diagram).period_at place) → depth ≡ depth_at timing.depths place → number ≡ base_at bases period depth → number ≡ ready place
+  pub fed_is : (bases : Bases) (place period depth number : ℕ) → AreBases diagram plan timing bases
+      → is_marked timing.fed place ≡ true → period ≡ samples ((attributes_of diagram).period_at place)
+      → depth ≡ depth_at timing.depths place → number ≡ base_at bases period depth → number ≡ ready place
   fed_is bases place period depth number are fed at deep is =
       is ∙ ap (λ (p : ℕ). base_at bases p depth) at ∙ ap (base_at bases (samples ((attributes_of diagram).period_at place))) deep ∙ are.are place (depth_at timing.depths place)
       ∙ sym (cond-true (is_marked timing.fed place) (base_slot diagram (attributes_of diagram) plan timing (samples ((attributes_of diagram).period_at place)) (depth_at timing.depths place)) 0 fed)
 
   pub unfed_is : (place : ℕ) → is_marked timing.fed place ≡ false → 0 ≡ ready place
-  unfed_is place unfed = sym (cond-false (is_marked timing.fed place) (base_slot diagram (attributes_of diagram) plan timing (samples ((attributes_of diagram).period_at place)) (depth_at timing.depths place)) 0 unfed)
+  unfed_is place unfed = sym (cond-false (is_marked timing.fed place)
+      (base_slot diagram (attributes_of diagram) plan timing (samples ((attributes_of diagram).period_at place))
+      (depth_at timing.depths place)) 0 unfed)
 
   pub ready_none : (list : List ℕ) → list ≡ [] → AreReadyTo 0 list
   ready_none list none = record { size = ap (λ (xs : List ℕ). length xs) none; are = λ place below. absurd (omega (arith, below)) }

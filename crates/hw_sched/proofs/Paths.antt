@@ -29,7 +29,9 @@ module _ (diagram : Diagram) (attributes : Attributes) where
   pub leads_now : (number : ℕ) (edge : LatencyEdge) → IsEdge diagram number edge → IsInstant diagram attributes edge → LeadsNow diagram attributes edge.from edge.to
   leads_now number edge at now = (number, edge, slice_get_within (latency_edges diagram) number edge at, get_or_from_slice_get (latency_edges diagram) number edge edge at, (refl, refl, now))
 
-  path_push : (path : List ℕ) (last from to : ℕ) → IsInstantPath diagram attributes path → length path ≡ suc last → slice_get path last ≡ Some from → LeadsNow diagram attributes from to → IsInstantPath diagram attributes (path ++ to ∷ [])
+  path_push : (path : List ℕ) (last from to : ℕ) → IsInstantPath diagram attributes path → length path ≡ suc last
+      → slice_get path last ≡ Some from → LeadsNow diagram attributes from to
+      → IsInstantPath diagram attributes (path ++ to ∷ [])
   path_push path last from to leads size ends now k x y here next = elim (push_cases path to (suc k) y next) [
     | inl old ↦ elim (push_cases path to k x here) [
       | inl there ↦ leads k x y there old
@@ -64,7 +66,9 @@ module _ (diagram : Diagram) (attributes : Attributes) where
       let begins : slice_get (take (suc cone.last) cone.path) 0 ≡ Some source = get_taken (suc cone.last) cone.path 0 source (omega arith) cone.begins in
       record {
         path = take (suc cone.last) cone.path ++ to ∷ [];
-        leads = path_push (take (suc cone.last) cone.path) cone.last from to (path_taken (suc cone.last) cone.path cone.leads) size (get_taken (suc cone.last) cone.path cone.last from (omega arith) cone.ends) now;
+        leads = path_push (take (suc cone.last) cone.path) cone.last from to
+            (path_taken (suc cone.last) cone.path cone.leads) size
+            (get_taken (suc cone.last) cone.path cone.last from (omega arith) cone.ends) now;
         begins = first_stays (take (suc cone.last) cone.path) source begins;
         last = length (take (suc cone.last) cone.path);
         ends = last_at (take (suc cone.last) cone.path) to;
@@ -82,7 +86,9 @@ module _ (diagram : Diagram) (attributes : Attributes) where
     counts period place = is_shared diagram attributes plan place && is_same_period (attributes.period_at place) period
 
     -- depths don't fall along an instant edge in a period, and rise to a shared block
-    pub depth_later : (from to depth later : ℕ) → attributes.period_at from ≡ attributes.period_at to → LeadsNow diagram attributes from to → IsDepth diagram attributes plan from depth → IsDepth diagram attributes plan to later
+    pub depth_later : (from to depth later : ℕ) → attributes.period_at from ≡ attributes.period_at to
+        → LeadsNow diagram attributes from to → IsDepth diagram attributes plan from depth
+        → IsDepth diagram attributes plan to later
         → (depth ≤ later) × (is_shared diagram attributes plan to ≡ true → suc depth ≤ later)
     depth_later from to depth later same now deep end =
         let most = end.most (deep.path ++ to ∷ []) (ends_later deep.path from to deep.ends now) in
@@ -90,6 +96,9 @@ module _ (diagram : Diagram) (attributes : Attributes) where
         let sums = sum_by_push (λ (place : ℕ). cond (counts (attributes.period_at to) place) 1 0) deep.path to in (
           omega (arith, most, reached, sums),
           λ shared.
-              let one = cond-true {A = ℕ} (counts (attributes.period_at to) to) 1 0 (and_from (is_shared diagram attributes plan to) (is_same_period (attributes.period_at to) (attributes.period_at to)) shared (same_period (attributes.period_at to))) in
+              let one = cond-true {A = ℕ} (counts (attributes.period_at to) to) 1 0
+              (and_from (is_shared diagram attributes plan to)
+              (is_same_period (attributes.period_at to) (attributes.period_at to)) shared
+              (same_period (attributes.period_at to))) in
               omega (arith, most, reached, sums, one),
         )

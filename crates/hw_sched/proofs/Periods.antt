@@ -21,7 +21,8 @@ use Rattle.dg_model.specs.declared.row.Inherited.{Inherited}
 use Rattle.dg_model.specs.KindRow.{IsPeriod}
 use Rattle.dg_model.specs.Library.{row_of}
 use Rattle.dg_model.specs.Readable.{IsReadable}
-use Rattle.dg_model.specs.Periods.{Period, Periods, units_of, declared_period, least, multiple_of, known_or, known_at, finite, least_of, least_finite, are_unchanging, sources_of, taken_period, period_of_next, next_periods, first_inherited, first_period, first_periods, periods_after, or_one, period_at, base_units, periods_of}
+use Rattle.dg_model.specs.Periods.{Period, Periods, units_of, declared_period, least, multiple_of, known_or, known_at, finite, least_of, least_finite, are_unchanging, sources_of, taken_period}
+use Rattle.dg_model.specs.Periods.{period_of_next, next_periods, first_inherited, first_period, first_periods, periods_after, or_one, period_at, base_units, periods_of}
 use Rattle.dg_model.specs.Checked.{IsChecked}
 use Rattle.dg_model.specs.Faults.{AllKeep}
 use Rattle.dg_model.specs.Rate.{KeepsDeclared}
@@ -46,7 +47,9 @@ units_above : (block : Block) (decimal : Decimal) → IsReadable block → decla
 units_above block decimal readable e = by block.period readable.period e
   where
     of_digits : IsPeriod decimal → 0 < units_of decimal
-    of_digits is = let power = one-le-pow (int_gap (negsuc 35) decimal.exponent) 10 (omega arith) in let some = is.above in let more = one-le-mul {a = decimal.digits} {b = 10 ^ int_gap (negsuc 35) decimal.exponent} (omega (arith, some)) power in omega (arith, more)
+    of_digits is = let power = one-le-pow (int_gap (negsuc 35) decimal.exponent) 10 (omega arith) in let some =
+        is.above in let more = one-le-mul {a = decimal.digits} {b = 10 ^ int_gap (negsuc 35) decimal.exponent}
+        (omega (arith, some)) power in omega (arith, more)
 
     by : (period : PeriodSpec) → (row_of block.kind).timing.may_be period → declared_period period ≡ Some decimal → 0 < units_of decimal
     by Inherit may e = absurd (none-some decimal e)
@@ -81,11 +84,14 @@ all_above : (blocks : List Block) → ((k : ℕ) (block : Block) → slice_get b
 all_above [] readable = tt
 all_above (block ∷ blocks) readable = go (declared_period block.period) refl (all_above blocks (λ k b at. readable (suc k) b at))
   where
-    go : (o : Option Decimal) → declared_period block.period ≡ o → IsAbove (least (units_in blocks)) → IsAbove (least (map units_of (cons_option o (filter_map (λ (b : Block). declared_period b.period) blocks))))
+    go : (o : Option Decimal) → declared_period block.period ≡ o → IsAbove (least (units_in blocks))
+        → IsAbove
+        (least (map units_of (cons_option o (filter_map (λ (b : Block). declared_period b.period) blocks))))
     go None e later = later
     go (Some decimal) e later = least_above (units_of decimal) (units_in blocks) (units_above block decimal (readable 0 block refl) e) later
 
-units_low : (blocks : List Block) (k : ℕ) (block : Block) (decimal : Decimal) → slice_get blocks k ≡ Some block → declared_period block.period ≡ Some decimal → IsLow (units_of decimal) (least (units_in blocks))
+units_low : (blocks : List Block) (k : ℕ) (block : Block) (decimal : Decimal) → slice_get blocks k ≡ Some block
+    → declared_period block.period ≡ Some decimal → IsLow (units_of decimal) (least (units_in blocks))
 units_low [] k block decimal at e = absurd (none-some block at)
 units_low (x ∷ blocks) zero block decimal at e = go (declared_period x.period) (ap (λ (b : Block). declared_period b.period) (same_Some x block at) ∙ e)
   where
@@ -94,15 +100,21 @@ units_low (x ∷ blocks) zero block decimal at e = go (declared_period x.period)
     go (Some other) same = subst (λ (d : Decimal). IsLow (units_of d) (least (units_of other ∷ units_in blocks))) (same_Some other decimal same) (least_first (units_of other) (units_in blocks))
 units_low (x ∷ blocks) (suc k) block decimal at e = go (declared_period x.period) (units_low blocks k block decimal at e)
   where
-    go : (o : Option Decimal) → IsLow (units_of decimal) (least (units_in blocks)) → IsLow (units_of decimal) (least (map units_of (cons_option o (filter_map (λ (b : Block). declared_period b.period) blocks))))
+    go : (o : Option Decimal) → IsLow (units_of decimal) (least (units_in blocks))
+        → IsLow (units_of decimal)
+        (least (map units_of (cons_option o (filter_map (λ (b : Block). declared_period b.period) blocks))))
     go None low = low
     go (Some other) low = least_later (units_of decimal) (units_of other) (units_in blocks) low
 
 pub readable_at : (diagram : Diagram) → IsWired diagram → (place : ℕ) (block : Block) → slice_get diagram.blocks place ≡ Some block → IsReadable block
 readable_at diagram wired place block at = held IsReadable diagram.blocks place block wired.blocks at
 
-multiple_above : (diagram : Diagram) → IsWired diagram → (place : ℕ) (block : Block) (decimal : Decimal) → slice_get diagram.blocks place ≡ Some block → declared_period block.period ≡ Some decimal → 0 < multiple_of diagram decimal
-multiple_above diagram wired place block decimal at e = go (least (units_in diagram.blocks)) refl (all_above diagram.blocks (readable_at diagram wired)) (units_low diagram.blocks place block decimal at e)
+multiple_above : (diagram : Diagram) → IsWired diagram → (place : ℕ) (block : Block) (decimal : Decimal)
+    → slice_get diagram.blocks place ≡ Some block → declared_period block.period ≡ Some decimal
+    → 0 < multiple_of diagram decimal
+multiple_above diagram wired place block decimal at e =
+    go (least (units_in diagram.blocks)) refl (all_above diagram.blocks (readable_at diagram wired))
+    (units_low diagram.blocks place block decimal at e)
   where
     go : (o : Option ℕ) → least (units_in diagram.blocks) ≡ o → IsAbove o → IsLow (units_of decimal) o → 0 < multiple_of diagram decimal
     go None is above low = absurd low
@@ -112,11 +124,18 @@ multiple_above diagram wired place block decimal at e = go (least (units_in diag
         rw is some
 
 -- and at most 4096
-multiple_short : (diagram : Diagram) → IsWired diagram → (place : ℕ) (block : Block) (decimal : Decimal) → KeepsDeclared diagram place block → slice_get diagram.blocks place ≡ Some block → declared_period block.period ≡ Some decimal → multiple_of diagram decimal ≤ 4096
+multiple_short : (diagram : Diagram) → IsWired diagram → (place : ℕ) (block : Block) (decimal : Decimal)
+    → KeepsDeclared diagram place block → slice_get diagram.blocks place ≡ Some block
+    → declared_period block.period ≡ Some decimal → multiple_of diagram decimal ≤ 4096
 multiple_short diagram wired place block decimal keeps at e =
-    go (least (units_in diagram.blocks)) refl (all_above diagram.blocks (readable_at diagram wired)) (units_low diagram.blocks place block decimal at e) (MatchOption-at_some ⊤ (λ (d : Decimal). (times : ℕ) × (times ≤ 4096) × (units_of d ≡ times * base_units diagram)) decimal e keeps)
+    go (least (units_in diagram.blocks)) refl (all_above diagram.blocks (readable_at diagram wired))
+    (units_low diagram.blocks place block decimal at e)
+    (MatchOption-at_some ⊤ (λ (d : Decimal). (times : ℕ) × (times ≤ 4096)
+    × (units_of d ≡ times * base_units diagram)) decimal e keeps)
   where
-    go : (o : Option ℕ) → least (units_in diagram.blocks) ≡ o → IsAbove o → IsLow (units_of decimal) o → (times : ℕ) × (times ≤ 4096) × (units_of decimal ≡ times * base_units diagram) → multiple_of diagram decimal ≤ 4096
+    go : (o : Option ℕ) → least (units_in diagram.blocks) ≡ o → IsAbove o → IsLow (units_of decimal) o
+        → (times : ℕ) × (times ≤ 4096) × (units_of decimal ≡ times * base_units diagram)
+        → multiple_of diagram decimal ≤ 4096
     go None is above low times = absurd low
     go (Some base) is above low times =
         let unit : base_units diagram ≡ base = rw is refl in
@@ -174,13 +193,15 @@ next_above diagram values all place = known (known_at values place) (period_of_n
         taken_above (row_of block.kind).timing.inherits (map (known_at values) (sources_of diagram place block)) (least_finite (map (known_at values) (sources_of diagram place block))) refl
         (least_known values all (sources_of diagram place block))
 
-round_keeps : (P : Option Period → Type 0) (diagram : Diagram) (values : Periods) (place : ℕ) → P None → P (next_periods diagram values place) → P (known_at (round (next_periods diagram) values) place)
+round_keeps : (P : Option Period → Type 0) (diagram : Diagram) (values : Periods) (place : ℕ) → P None
+    → P (next_periods diagram values place) → P (known_at (round (next_periods diagram) values) place)
 round_keeps P diagram values place none next = elim (cases_lt place (length values)) [
   | inl below ↦ subst P (sym (get_or_from_slice_get (round (next_periods diagram) values) place (next_periods diagram values place) None (round_at (next_periods diagram) values place below))) next
   | inr past ↦ let size = length_round (next_periods diagram) values in subst P (sym (get_or_past (round (next_periods diagram) values) place None (omega (arith, past, size)))) none
 ]
 
-first_keeps : (P : Option Period → Type 0) (f : Block → Option Period) (blocks : List Block) (place : ℕ) → P None → ((block : Block) → slice_get blocks place ≡ Some block → P (f block)) → P (known_at (map f blocks) place)
+first_keeps : (P : Option Period → Type 0) (f : Block → Option Period) (blocks : List Block) (place : ℕ) → P None
+    → ((block : Block) → slice_get blocks place ≡ Some block → P (f block)) → P (known_at (map f blocks) place)
 first_keeps P f [] place none all = none
 first_keeps P f (block ∷ blocks) zero none all = all block refl
 first_keeps P f (block ∷ blocks) (suc place) none all = first_keeps P f blocks place none all
@@ -197,7 +218,10 @@ first_above diagram wired keeps place = first_keeps IsShortAt (λ (block : Block
     by : (block : Block) → slice_get diagram.blocks place ≡ Some block → (period : PeriodSpec) → block.period ≡ period → IsShortAt (first_period diagram block.kind period)
     by block at Inherit e = inherited_above (row_of block.kind).timing.inherits
     by block at NeverChanges e = tt
-    by block at (Every decimal) e = (multiple_above diagram wired place block decimal at (ap declared_period e), multiple_short diagram wired place block decimal (keeps place block at) at (ap declared_period e))
+    by block at (Every decimal) e = (
+      multiple_above diagram wired place block decimal at (ap declared_period e),
+      multiple_short diagram wired place block decimal (keeps place block at) at (ap declared_period e),
+    )
 
 rounds_above : (diagram : Diagram) → IsWired diagram → AllKeep diagram (KeepsDeclared diagram) → (n place : ℕ) → IsShortAt (known_at (periods_after diagram n) place)
 rounds_above diagram wired keeps zero place = first_above diagram wired keeps place
@@ -254,17 +278,22 @@ taken_moves Inherited.Moving sources None moving e = rw e tt
 taken_moves Inherited.Base sources None moving e = rw e tt
 taken_moves Inherited.Unchanging sources None moving e = absurd (false≢true moving)
 
-module _ (diagram : Diagram) (wired : IsWired diagram) (place : ℕ) (block : Block) (at : slice_get diagram.blocks place ≡ Some block) (moving : is_moving (row_of block.kind).timing.inherits ≡ true) where
+module _ (diagram : Diagram) (wired : IsWired diagram) (place : ℕ) (block : Block)
+    (at : slice_get diagram.blocks place ≡ Some block)
+    (moving : is_moving (row_of block.kind).timing.inherits ≡ true) where
   next_moves : (values : Periods) → Moves (known_at values place) → Moves (next_periods diagram values place)
   next_moves values all = known (known_at values place) all
     where
       known : (x : Option Period) → Moves x → Moves (known_or x (period_of_next diagram (slice_get diagram.blocks place) values place))
-      known None h = rw at (taken_moves (row_of block.kind).timing.inherits (map (known_at values) (sources_of diagram place block)) (least_finite (map (known_at values) (sources_of diagram place block))) moving refl)
+      known None h = rw at (taken_moves (row_of block.kind).timing.inherits
+          (map (known_at values) (sources_of diagram place block))
+          (least_finite (map (known_at values) (sources_of diagram place block))) moving refl)
       known (Some x) h = h
 
   rounds_move : (n : ℕ) → Moves (known_at (periods_after diagram n) place)
   rounds_move zero = first_keeps Moves (λ (b : Block). first_period diagram b.kind b.period) diagram.blocks place tt (λ b here.
-      subst (λ (b : Block). Moves (first_period diagram b.kind b.period)) (same_Some block b (sym at ∙ here)) (first_moves diagram block.kind block.period moving (readable_at diagram wired place block at).period))
+      subst (λ (b : Block). Moves (first_period diagram b.kind b.period)) (same_Some block b (sym at ∙ here))
+      (first_moves diagram block.kind block.period moving (readable_at diagram wired place block at).period))
   rounds_move (suc n) = round_keeps Moves diagram (periods_after diagram n) place tt (next_moves (periods_after diagram n) (rounds_move n))
 
 settled_moves : (values : Periods) (place : ℕ) → place < length values → Moves (known_at values place) → (period : ℕ) × (period_at (map or_one values) place ≡ Some period)

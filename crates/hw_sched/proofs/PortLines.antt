@@ -16,7 +16,9 @@ find_none {A} p (x ∷ xs) none = ap (λ (b : Bool). cond b (Some x) (find p xs)
 find_at : {A : Type 0} (p : A → Bool) (xs : List A) (i : ℕ) (x : A) → slice_get xs i ≡ Some x → p x ≡ true → ((k : ℕ) (y : A) → k < i → slice_get xs k ≡ Some y → p y ≡ false) → find p xs ≡ Some x
 find_at p [] i x at is none = absurd (none-some x at)
 find_at {A} p (y ∷ xs) zero x at is none = ap (λ (b : Bool). cond b (Some y) (find p xs)) (ap p (same_Some y x at) ∙ is) ∙ at
-find_at {A} p (y ∷ xs) (suc i) x at is none = ap (λ (b : Bool). cond b (Some y) (find p xs)) (none 0 y (omega arith) refl) ∙ find_at p xs i x at is (λ k z below there. none (suc k) z (omega (arith, below)) there)
+find_at {A} p (y ∷ xs) (suc i) x at is none =
+    ap (λ (b : Bool). cond b (Some y) (find p xs)) (none 0 y (omega arith) refl)
+    ∙ find_at p xs i x at is (λ k z below there. none (suc k) z (omega (arith, below)) there)
 
 -- none of the first lines ends at this port
 pub record NoneEnters (edges : List Edge) (count block port : ℕ) : Type 0 where
@@ -29,7 +31,9 @@ enters_none edges first block port is = record {
       and_left (edge.to == block) (edge.to_port == port) (ne_eqb edge.to block (λ e. omega (arith, e, early)));
 }
 
-pub enters_more : (edges : List Edge) (first index block port : ℕ) (edge : Edge) → slice_get edges (first + index) ≡ Some edge → (edge.to_port ≡ port → ⊥) → NoneEnters edges (first + index) block port → NoneEnters edges (first + (index + 1)) block port
+pub enters_more : (edges : List Edge) (first index block port : ℕ) (edge : Edge)
+    → slice_get edges (first + index) ≡ Some edge → (edge.to_port ≡ port → ⊥)
+    → NoneEnters edges (first + index) block port → NoneEnters edges (first + (index + 1)) block port
 enters_more edges first index block port edge at differs before = record {
   none = λ k other below there. elim (cases_lt k (first + index)) [
     | inl less ↦ before.none k other less there
@@ -40,15 +44,21 @@ enters_more edges first index block port edge at differs before = record {
   ];
 }
 
-pub enters_at : (edges : List Edge) (count block port : ℕ) (edge : Edge) → slice_get edges count ≡ Some edge → edge.to ≡ block → edge.to_port ≡ port → NoneEnters edges count block port → find (enters block port) edges ≡ Some edge
+pub enters_at : (edges : List Edge) (count block port : ℕ) (edge : Edge) → slice_get edges count ≡ Some edge
+    → edge.to ≡ block → edge.to_port ≡ port → NoneEnters edges count block port
+    → find (enters block port) edges ≡ Some edge
 enters_at edges count block port edge at to to_port before =
-    find_at (enters block port) edges count edge at (and_from (edge.to == block) (edge.to_port == port) (eq-eqb edge.to block to) (eq-eqb edge.to_port port to_port)) (λ k other below there. before.none k other below there)
+    find_at (enters block port) edges count edge at
+    (and_from (edge.to == block) (edge.to_port == port) (eq-eqb edge.to block to)
+    (eq-eqb edge.to_port port to_port)) (λ k other below there. before.none k other below there)
 
 pub enters_end : (edges : List Edge) (count block port : ℕ) → length edges ≤ count → NoneEnters edges count block port → find (enters block port) edges ≡ None
 enters_end edges count block port end before = find_none (enters block port) edges (λ k edge at. let within = slice_get_within edges k edge at in before.none k edge (omega (arith, within, end)) at)
 
 -- past the lines into a block none ends at it
-pub enters_stop : (edges : List Edge) (first count block port : ℕ) (edge : Edge) → AllPairs StandsBefore edges → IsFirstInto edges block first → first ≤ count → slice_get edges count ≡ Some edge → (edge.to ≡ block → ⊥) → NoneEnters edges count block port → find (enters block port) edges ≡ None
+pub enters_stop : (edges : List Edge) (first count block port : ℕ) (edge : Edge) → AllPairs StandsBefore edges
+    → IsFirstInto edges block first → first ≤ count → slice_get edges count ≡ Some edge → (edge.to ≡ block → ⊥)
+    → NoneEnters edges count block port → find (enters block port) edges ≡ None
 enters_stop edges first count block port edge ordered is past at differs before = find_none (enters block port) edges (λ k other there. elim (cases_lt k count) [
   | inl less ↦ before.none k other less there
   | inr behind ↦

@@ -85,7 +85,9 @@ module _ (own source : ℕ) (some : 0 < own) (there : 0 < source) (divides : (ow
     ]
   ]
 
-  plain_divides : (reads : Reading) (free : Bool) → (joins_periods reads ≡ true → free ≡ true) → (joins_periods reads ≡ false → own ≡ source) → (free && not (is_now reads (nat_lt own source))) ≡ false → own % source ≡ 0
+  plain_divides : (reads : Reading) (free : Bool) → (joins_periods reads ≡ true → free ≡ true)
+      → (joins_periods reads ≡ false → own ≡ source) → (free && not (is_now reads (nat_lt own source))) ≡ false
+      → own % source ≡ 0
   plain_divides Reading.Now free outside same plain = ap (λ (n : ℕ). n % source) (same refl) ∙ mod_self source
   plain_divides Reading.Before free outside same plain = ap (λ (n : ℕ). n % source) (same refl) ∙ mod_self source
   plain_divides Reading.BeforeIfSlower free outside same plain = elim (cases_lt own source) [
@@ -98,7 +100,9 @@ module _ (own source : ℕ) (some : 0 < own) (there : 0 < source) (divides : (ow
   late_divides : (reads : Reading) (free : Bool) → (joins_periods reads ≡ false → own ≡ source) → (free && not (is_now reads (nat_lt own source))) ≡ true → source % own ≡ 0
   late_divides Reading.Now free same late = ap (λ (n : ℕ). source % n) (same refl) ∙ mod_self source
   late_divides Reading.Before free same late = ap (λ (n : ℕ). source % n) (same refl) ∙ mod_self source
-  late_divides Reading.BeforeIfSlower free same late = below_divides (ltb-true own source (not-false (nat_lt own source) (not-true (not (nat_lt own source)) (and_parts free (not (not (nat_lt own source))) late).1)))
+  late_divides Reading.BeforeIfSlower free same late =
+      below_divides (ltb-true own source (not-false (nat_lt own source)
+      (not-true (not (nat_lt own source)) (and_parts free (not (not (nat_lt own source))) late).1)))
 
 same_now : (reads : Reading) (slower other : Bool) → (joins_periods reads ≡ true → slower ≡ other) → is_now reads slower ≡ is_now reads other
 same_now Reading.Now slower other same = refl
@@ -109,10 +113,14 @@ module _ (diagram : Diagram) (checked : IsChecked diagram) where
   abbrev period : ℕ → Period
   period place = period_at (periods_of diagram) place
 
-  asked_suits : (place : ℕ) (b : Block) (source : ℕ) → slice_get diagram.blocks place ≡ Some b → Stands (asked_of diagram (period place) place b) source → suits (joins_periods (row_of b.kind).timing.reads) (period place) (period source) ≡ true
+  asked_suits : (place : ℕ) (b : Block) (source : ℕ) → slice_get diagram.blocks place ≡ Some b
+      → Stands (asked_of diagram (period place) place b) source
+      → suits (joins_periods (row_of b.kind).timing.reads) (period place) (period source) ≡ true
   asked_suits place b source at stands =
       not-false (suits (joins_periods (row_of b.kind).timing.reads) (period place) (period source))
-      (not_found (λ s. not (suits (joins_periods (row_of b.kind).timing.reads) (period place) (period s))) (asked_of diagram (period place) place b) stands.place source (checked.rates.periods place b at) stands.at)
+      (not_found (λ s. not (suits (joins_periods (row_of b.kind).timing.reads) (period place) (period s)))
+      (asked_of diagram (period place) place b) stands.place source
+      (checked.rates.periods place b at) stands.at)
 
   -- the source of a line is asked for
   asked_line : (own : Period) (place : ℕ) (line : Edge) (b : Block) → slice_get diagram.edges place ≡ Some line → Stands (asked_of diagram own line.to b) line.from
@@ -135,7 +143,9 @@ module _ (diagram : Diagram) (checked : IsChecked diagram) where
   abbrev Joined : LatencyEdge → Block → ℕ → Type 0
   Joined edge b source = slice_get diagram.blocks edge.to ≡ Some b → period edge.from ≡ Some source → (own : ℕ) × JoinsPeriods diagram edge b source own
 
-  joined_by : (edge : LatencyEdge) (b : Block) (source : ℕ) → slice_get diagram.blocks edge.to ≡ Some b → period edge.from ≡ Some source → suits (joins_periods (row_of b.kind).timing.reads) (period edge.to) (period edge.from) ≡ true
+  joined_by : (edge : LatencyEdge) (b : Block) (source : ℕ) → slice_get diagram.blocks edge.to ≡ Some b
+      → period edge.from ≡ Some source
+      → suits (joins_periods (row_of b.kind).timing.reads) (period edge.to) (period edge.from) ≡ true
       → (joins_periods (row_of b.kind).timing.reads ≡ true → period_into diagram (attributes_of diagram) edge.to 1 ≡ Some source) → (own : ℕ) × JoinsPeriods diagram edge b source own
   joined_by edge b source at is suits_is into =
       let s = suited (joins_periods (row_of b.kind).timing.reads) (period edge.to) source (ap (suits (joins_periods (row_of b.kind).timing.reads) (period edge.to)) (sym is) ∙ suits_is) in
@@ -162,9 +172,13 @@ module _ (diagram : Diagram) (checked : IsChecked diagram) where
       let low = ends.0 in
       let high = ends.1 in
       let one : line.to_port ≡ 1 = omega (arith, ports, low, high) in
-      ap (λ (o : Option Edge). at_source o None (λ from from_port. period from)) (subst (λ (port : ℕ). driver_of diagram line.to port ≡ Some line) one (drives diagram checked.wired place line b here at)) ∙ is)
+      ap (λ (o : Option Edge). at_source o None (λ from from_port. period from))
+      (subst (λ (port : ℕ). driver_of diagram line.to port ≡ Some line) one
+      (drives diagram checked.wired place line b here at)) ∙ is)
 
-  control_joins : (place control : ℕ) (x b : Block) (source : ℕ) → slice_get diagram.blocks place ≡ Some x → x.enable ≡ Some control → asks_ever (row_of x.kind).timing.asks ≡ true → Joined (control_edge control place) b source
+  control_joins : (place control : ℕ) (x b : Block) (source : ℕ) → slice_get diagram.blocks place ≡ Some x
+      → x.enable ≡ Some control → asks_ever (row_of x.kind).timing.asks ≡ true
+      → Joined (control_edge control place) b source
   control_joins place control x b source here enable asks at is =
       let same : x ≡ b = same_Some x b (sym here ∙ at) in
       let asked : asks_ever (row_of b.kind).timing.asks ≡ true = ap (λ (y : Block). asks_ever (row_of y.kind).timing.asks) (sym same) ∙ asks in

@@ -43,7 +43,9 @@ module _ (diagram : Diagram) (attributes : Attributes) (plan : Resolved) (timing
   pub unfed_ready : is_marked timing.fed place ≡ false → ready_of diagram attributes plan timing place ≡ 0
   unfed_ready fails = cond-false (is_marked timing.fed place) behind_all 0 fails
 
-  pub fed_ready : (period : ℕ) → is_marked timing.fed place ≡ true → attributes.period_at place ≡ Some period → ready_of diagram attributes plan timing place ≡ base_slot diagram attributes plan timing period (depth_at timing.depths place)
+  pub fed_ready : (period : ℕ) → is_marked timing.fed place ≡ true → attributes.period_at place ≡ Some period
+      → ready_of diagram attributes plan timing place
+      ≡ base_slot diagram attributes plan timing period (depth_at timing.depths place)
   fed_ready period holds is =
       let p : samples (attributes.period_at place) ≡ period = ap samples is in
       cond-true (is_marked timing.fed place) behind_all 0 holds ∙ ap (λ (n : ℕ). base_slot diagram attributes plan timing n (depth_at timing.depths place)) p
@@ -64,7 +66,10 @@ ready_fits diagram plan timing place period scheduled is =
 
 -- ---- what multiplies reads in its own sample, and asks for no control
 
-reads_at_once : (kind : Kind) → (row_of kind).hardware.multiplies ≡ true → (joins_periods (row_of kind).timing.reads ≡ false) × ((slower : Bool) → is_now (row_of kind).timing.reads slower ≡ true) × (asks_ever (row_of kind).timing.asks ≡ false)
+reads_at_once : (kind : Kind) → (row_of kind).hardware.multiplies ≡ true
+    → (joins_periods (row_of kind).timing.reads ≡ false)
+    × ((slower : Bool) → is_now (row_of kind).timing.reads slower ≡ true)
+    × (asks_ever (row_of kind).timing.asks ≡ false)
 reads_at_once (Gain value param) is = (refl, λ slower. refl, refl)
 reads_at_once Product is = (refl, λ slower. refl, refl)
 reads_at_once _ is = absurd (false≢true is)
@@ -80,7 +85,9 @@ end_of diagram edge now = go (slice_get diagram.blocks edge.to) refl now
     go (Some b) e h = (b, e)
 
 -- a transition has no control
-transition_line : (diagram : Diagram) (number : ℕ) (edge : LatencyEdge) (b : Block) → IsEdge diagram number edge → slice_get diagram.blocks edge.to ≡ Some b → joins_periods (row_of b.kind).timing.reads ≡ true → IsLine diagram edge
+transition_line : (diagram : Diagram) (number : ℕ) (edge : LatencyEdge) (b : Block) → IsEdge diagram number edge
+    → slice_get diagram.blocks edge.to ≡ Some b → joins_periods (row_of b.kind).timing.reads ≡ true
+    → IsLine diagram edge
 transition_line diagram number edge b is_edge at holds = elim (edge_cases diagram number edge is_edge) [
   | inl line ↦ line
   | inr control ↦
@@ -91,7 +98,9 @@ transition_line diagram number edge b is_edge at holds = elim (edge_cases diagra
 ]
 
 -- it leads to no shorter period
-pub instant_longer : (diagram : Diagram) (number : ℕ) (edge : LatencyEdge) (b : Block) (source own : ℕ) → IsEdge diagram number edge → IsInstant diagram (attributes_of diagram) edge → slice_get diagram.blocks edge.to ≡ Some b → JoinsPeriods diagram edge b source own
+pub instant_longer : (diagram : Diagram) (number : ℕ) (edge : LatencyEdge) (b : Block) (source own : ℕ)
+    → IsEdge diagram number edge → IsInstant diagram (attributes_of diagram) edge
+    → slice_get diagram.blocks edge.to ≡ Some b → JoinsPeriods diagram edge b source own
     → source ≤ own
 instant_longer diagram number edge b source own is_edge now at joins = elim (cases_Bool (joins_periods (row_of b.kind).timing.reads)) [
   | inr fails ↦ let same = joins.same fails in omega (arith, same)
@@ -121,7 +130,8 @@ module _ (diagram : Diagram) (plan : Resolved) (timing : Timing) (scheduled : Is
     | inr past ↦ let size = scheduled.timed.fed.size in absurd (false≢true (sym (get_or_past timing.fed place false (omega (arith, size, past))) ∙ holds))
   ]
 
-  module _ (number : ℕ) (edge : LatencyEdge) (source own : ℕ) (b : Block) (is_edge : IsEdge diagram number edge) (now : IsInstant diagram (attributes_of diagram) edge) (at : slice_get diagram.blocks edge.to ≡ Some b)
+  module _ (number : ℕ) (edge : LatencyEdge) (source own : ℕ) (b : Block) (is_edge : IsEdge diagram number edge)
+      (now : IsInstant diagram (attributes_of diagram) edge) (at : slice_get diagram.blocks edge.to ≡ Some b)
       (from_is : (attributes_of diagram).period_at edge.from ≡ Some source) (joins : JoinsPeriods diagram edge b source own) (fed : is_marked timing.fed edge.from ≡ true) where
     leads : LeadsNow diagram (attributes_of diagram) edge.from edge.to
     leads = leads_now diagram (attributes_of diagram) number edge is_edge now
@@ -133,7 +143,9 @@ module _ (diagram : Diagram) (plan : Resolved) (timing : Timing) (scheduled : Is
     fed_end = scheduled.timed.fed.whole edge.to there (fed_later diagram (attributes_of diagram) plan edge.from edge.to (scheduled.timed.fed.sound edge.from fed) leads)
 
     -- in one period depths don't fall
-    deeper : own ≡ source → (depth_at timing.depths edge.from ≤ depth_at timing.depths edge.to) × (is_shared diagram (attributes_of diagram) plan edge.to ≡ true → suc (depth_at timing.depths edge.from) ≤ depth_at timing.depths edge.to)
+    deeper : own ≡ source → (depth_at timing.depths edge.from ≤ depth_at timing.depths edge.to)
+        × (is_shared diagram (attributes_of diagram) plan edge.to ≡ true
+        → suc (depth_at timing.depths edge.from) ≤ depth_at timing.depths edge.to)
     deeper same =
         depth_later diagram (attributes_of diagram) plan edge.from edge.to (depth_at timing.depths edge.from) (depth_at timing.depths edge.to)
         (from_is ∙ ap (λ (n : ℕ). Some n) (sym same) ∙ sym joins.period) leads (scheduled.timed.depths.are edge.from (marked_there edge.from fed)) (scheduled.timed.depths.are edge.to there)
@@ -154,7 +166,9 @@ module _ (diagram : Diagram) (plan : Resolved) (timing : Timing) (scheduled : Is
     pub rises_same : own ≡ source → ready edge.from ≤ ready edge.to
     rises_same same = let low = rises_in same (depth_at timing.depths edge.to) (deeper same).0 in let end = end_ready in omega (arith, low, end)
 
-    pub below_level : own ≡ source → (o : Operation) → o.block ≡ edge.to → is_shared diagram (attributes_of diagram) plan edge.to ≡ true → ready edge.from ≤ base_slot diagram (attributes_of diagram) plan timing own (level_of timing o)
+    pub below_level : own ≡ source → (o : Operation) → o.block ≡ edge.to
+        → is_shared diagram (attributes_of diagram) plan edge.to ≡ true
+        → ready edge.from ≤ base_slot diagram (attributes_of diagram) plan timing own (level_of timing o)
     below_level same o is shared =
         let deep = (deeper same).1 shared in
         let e = ap (depth_at timing.depths) is in
@@ -170,13 +184,20 @@ module _ (diagram : Diagram) (plan : Resolved) (timing : Timing) (scheduled : Is
         let source_is : samples ((attributes_of diagram).period_at line.line.from) ≡ source = ap (λ (n : ℕ). samples ((attributes_of diagram).period_at n)) from_at ∙ ap samples from_is in
         let shorter : shorter_into (attributes_of diagram) own line.line (slice_get diagram.blocks line.line.to) ≡ source =
         ap (shorter_into (attributes_of diagram) own line.line) (ap (slice_get diagram.blocks) to_is ∙ at)
-        ∙ cond-true (joins_periods (row_of b.kind).timing.reads && (eqb (samples ((attributes_of diagram).period_at line.line.to)) own && nat_lt (samples ((attributes_of diagram).period_at line.line.from)) own)) (samples ((attributes_of diagram).period_at line.line.from)) 0
-        (and_from (joins_periods (row_of b.kind).timing.reads) (eqb (samples ((attributes_of diagram).period_at line.line.to)) own && nat_lt (samples ((attributes_of diagram).period_at line.line.from)) own) joining
+        ∙ cond-true (joins_periods (row_of b.kind).timing.reads
+        && (eqb (samples ((attributes_of diagram).period_at line.line.to)) own
+        && nat_lt (samples ((attributes_of diagram).period_at line.line.from)) own))
+        (samples ((attributes_of diagram).period_at line.line.from)) 0
+        (and_from (joins_periods (row_of b.kind).timing.reads)
+        (eqb (samples ((attributes_of diagram).period_at line.line.to)) own
+        && nat_lt (samples ((attributes_of diagram).period_at line.line.from)) own) joining
         (and_from (eqb (samples ((attributes_of diagram).period_at line.line.to)) own) (nat_lt (samples ((attributes_of diagram).period_at line.line.from)) own)
         (eq-eqb (samples ((attributes_of diagram).period_at line.line.to)) own own_is) (lt-ltb (samples ((attributes_of diagram).period_at line.line.from)) own (omega (arith, source_is, less)))))
         ∙ source_is in
         let most = greatest_at (λ (e : Edge). shorter_into (attributes_of diagram) own e (slice_get diagram.blocks e.to)) diagram.edges line.place line.line line.at in
-        let times = mul-le-mul_right {m = source} {n = greatest (map (λ (e : Edge). shorter_into (attributes_of diagram) own e (slice_get diagram.blocks e.to)) diagram.edges)} plan.cycles (omega (arith, most, shorter)) in
+        let times = mul-le-mul_right {m = source}
+        {n = greatest (map (λ (e : Edge). shorter_into (attributes_of diagram) own e
+        (slice_get diagram.blocks e.to)) diagram.edges)} plan.cycles (omega (arith, most, shorter)) in
         let start = base_rises diagram (attributes_of diagram) plan timing own 0 (depth_at timing.depths edge.to) (omega arith) in
         let end = end_ready in
         omega (arith, fits, times, start, end)

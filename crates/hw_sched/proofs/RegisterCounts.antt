@@ -50,11 +50,14 @@ module _ (diagram : Diagram) (attributes : Attributes) (plan : Resolved) (timing
   beside_more : (count more all : ℕ) (front rest : List LatencyEdge) → more ≡ capped (lines front) → all ≡ capped (count + more) → Beside count (front ++ rest) → Beside all rest
   beside_more count more all front rest more_is all_is beside =
       let parts : lines (front ++ rest) ≡ lines front + lines rest =
-      ap (λ (xs : List ℕ). sum xs) (map-append (line_at diagram attributes plan timing) front rest) ∙ sum_by-append (λ (n : ℕ). n) (map (line_at diagram attributes plan timing) front) (map (line_at diagram attributes plan timing) rest) in
+      ap (λ (xs : List ℕ). sum xs) (map-append (line_at diagram attributes plan timing) front rest)
+      ∙ sum_by-append (λ (n : ℕ). n) (map (line_at diagram attributes plan timing) front)
+      (map (line_at diagram attributes plan timing) rest) in
       let sum_is = beside.sum_is in
       record { sum_is = omega (arith, parts, more_is, all_is, sum_is); fits = omega (arith, all_is) }
 
-  pub beside_line : (count more all i : ℕ) (line : Edge) → slice_get diagram.edges i ≡ Some line → more ≡ capped (line_at diagram attributes plan timing (signal_edge line)) → all ≡ capped (count + more)
+  pub beside_line : (count more all i : ℕ) (line : Edge) → slice_get diagram.edges i ≡ Some line
+      → more ≡ capped (line_at diagram attributes plan timing (signal_edge line)) → all ≡ capped (count + more)
       → Beside count (map signal_edge (drop i diagram.edges) ++ enable_edges_from 0 diagram.blocks) → Beside all (map signal_edge (drop (i + 1) diagram.edges) ++ enable_edges_from 0 diagram.blocks)
   beside_line count more all i line at more_is all_is beside =
       let one = sum-cons (line_at diagram attributes plan timing (signal_edge line)) [] in
@@ -62,10 +65,16 @@ module _ (diagram : Diagram) (attributes : Attributes) (plan : Resolved) (timing
       beside_more count more all (signal_edge line ∷ []) (map signal_edge (drop (i + 1) diagram.edges) ++ enable_edges_from 0 diagram.blocks) (more_is ∙ ap capped same) all_is
       (subst (λ (es : List LatencyEdge). Beside count es) (lines_from diagram i line (enable_edges_from 0 diagram.blocks) at) beside)
 
-  pub beside_lines : (count i : ℕ) → length diagram.edges ≤ i → Beside count (map signal_edge (drop i diagram.edges) ++ enable_edges_from 0 diagram.blocks) → Beside count (enable_edges_from 0 (drop 0 diagram.blocks))
-  beside_lines count i end beside = subst (λ (es : List LatencyEdge). Beside count es) (ap (λ (es : List Edge). map signal_edge es ++ enable_edges_from 0 diagram.blocks) (drop_all i diagram.edges end)) beside
+  pub beside_lines : (count i : ℕ) → length diagram.edges ≤ i
+      → Beside count (map signal_edge (drop i diagram.edges) ++ enable_edges_from 0 diagram.blocks)
+      → Beside count (enable_edges_from 0 (drop 0 diagram.blocks))
+  beside_lines count i end beside = subst (λ (es : List LatencyEdge). Beside count es)
+      (ap (λ (es : List Edge). map signal_edge es ++ enable_edges_from 0 diagram.blocks)
+      (drop_all i diagram.edges end)) beside
 
-  pub beside_control : (count more all i : ℕ) (block : Block) → slice_get diagram.blocks i ≡ Some block → more ≡ capped (controls_line diagram attributes plan timing i (slice_get diagram.blocks i)) → all ≡ capped (count + more)
+  pub beside_control : (count more all i : ℕ) (block : Block) → slice_get diagram.blocks i ≡ Some block
+      → more ≡ capped (controls_line diagram attributes plan timing i (slice_get diagram.blocks i))
+      → all ≡ capped (count + more)
       → Beside count (enable_edges_from i (drop i diagram.blocks)) → Beside all (enable_edges_from (i + 1) (drop (i + 1) diagram.blocks))
   beside_control count more all i block at more_is all_is beside =
       beside_more count more all (enable_edge i (asks_ever (row_of block.kind).timing.asks) block.enable) (enable_edges_from (i + 1) (drop (i + 1) diagram.blocks))
@@ -82,7 +91,8 @@ module _ (diagram : Diagram) (attributes : Attributes) (plan : Resolved) (timing
   one_line : (edge : LatencyEdge) (count : ℕ) → count ≡ line_at diagram attributes plan timing edge → count ≡ lines (edge ∷ [])
   one_line edge count is = let one = sum-cons (line_at diagram attributes plan timing edge) [] in omega (arith, one, is)
 
-  pub control_none : (place : ℕ) (block : Block) (found : Option ℕ) → slice_get diagram.blocks place ≡ Some block → found ≡ cond (asks_ever (row_of block.kind).timing.asks) block.enable None → found ≡ None
+  pub control_none : (place : ℕ) (block : Block) (found : Option ℕ) → slice_get diagram.blocks place ≡ Some block
+      → found ≡ cond (asks_ever (row_of block.kind).timing.asks) block.enable None → found ≡ None
       → 0 ≡ controls_line diagram attributes plan timing place (slice_get diagram.blocks place)
   control_none place block found at found_is none = by (asks_ever (row_of block.kind).timing.asks) block.enable (sym found_is ∙ none) ∙ sym (ap (controls_line diagram attributes plan timing place) at)
     where
@@ -91,8 +101,11 @@ module _ (diagram : Diagram) (attributes : Attributes) (plan : Resolved) (timing
       by true (Some control) e = absurd (none-some control (sym e))
       by false (Some control) e = refl
 
-  pub control_some : (place control count : ℕ) (block : Block) (found : Option ℕ) (edge : LatencyEdge) → slice_get diagram.blocks place ≡ Some block → found ≡ cond (asks_ever (row_of block.kind).timing.asks) block.enable None → found ≡ Some control
-      → enable_edge place true (Some control) ≡ edge ∷ [] → count ≡ line_at diagram attributes plan timing edge → count ≡ controls_line diagram attributes plan timing place (slice_get diagram.blocks place)
+  pub control_some : (place control count : ℕ) (block : Block) (found : Option ℕ) (edge : LatencyEdge)
+      → slice_get diagram.blocks place ≡ Some block
+      → found ≡ cond (asks_ever (row_of block.kind).timing.asks) block.enable None → found ≡ Some control
+      → enable_edge place true (Some control) ≡ edge ∷ [] → count ≡ line_at diagram attributes plan timing edge
+      → count ≡ controls_line diagram attributes plan timing place (slice_get diagram.blocks place)
   control_some place control count block found edge at found_is some edge_is is =
       by (asks_ever (row_of block.kind).timing.asks) block.enable (sym found_is ∙ some) ∙ sym (ap (controls_line diagram attributes plan timing place) at)
     where
@@ -111,14 +124,20 @@ filtered_length : {A B : Type 0} (f : A → List B) (p : A → Bool) (xs : List 
 filtered_length f p [] = refl
 filtered_length {A} {B} f p (x ∷ xs) = go (p x) (filtered_length f p xs) ∙ sym (sum-cons (cond (p x) (length (f x)) 0) (map (λ x. cond (p x) (length (f x)) 0) xs))
   where
-    go : (b : Bool) → length (flat_map f (filter p xs)) ≡ sum (map (λ x. cond (p x) (length (f x)) 0) xs) → length (flat_map f (cond b (x ∷ filter p xs) (filter p xs))) ≡ cond b (length (f x)) 0 + sum (map (λ x. cond (p x) (length (f x)) 0) xs)
+    go : (b : Bool) → length (flat_map f (filter p xs)) ≡ sum (map (λ x. cond (p x) (length (f x)) 0) xs)
+        → length (flat_map f (cond b (x ∷ filter p xs) (filter p xs)))
+        ≡ cond b (length (f x)) 0 + sum (map (λ x. cond (p x) (length (f x)) 0) xs)
     go true more = let parts = length-append (f x) (flat_map f (filter p xs)) in omega (arith, parts, more)
     go false more = omega (arith, more)
 
-results_are : (diagram : Diagram) (attributes : Attributes) (plan : Resolved) → sum_below (results_at diagram attributes plan) (length diagram.blocks) ≡ length (shared_operations diagram attributes plan)
+results_are : (diagram : Diagram) (attributes : Attributes) (plan : Resolved)
+    → sum_below (results_at diagram attributes plan) (length diagram.blocks)
+    ≡ length (shared_operations diagram attributes plan)
 results_are diagram attributes plan =
     sums_same (results_at diagram attributes plan) (λ place. cond (is_shared diagram attributes plan place) (length (operations_of attributes place)) 0) (numbers_from 0 (length diagram.blocks))
-    (λ place. ap (λ (n : ℕ). cond (is_shared diagram attributes plan place) n 0) (sym (length-map (numbers_from 0 (attributes.width_at place 1)) (operation place) ∙ length_numbers 0 (attributes.width_at place 1))))
+    (λ place. ap (λ (n : ℕ). cond (is_shared diagram attributes plan place) n 0)
+    (sym (length-map (numbers_from 0 (attributes.width_at place 1)) (operation place)
+    ∙ length_numbers 0 (attributes.width_at place 1))))
     ∙ sym (filtered_length (operations_of attributes) (is_shared diagram attributes plan) (numbers_from 0 (length diagram.blocks)))
 
 -- two sums that one loop makes
@@ -140,11 +159,15 @@ sum_capped : (one other first second all : ℕ) → first ≡ capped one → sec
 sum_capped one other first second all first_is second_is all_is = omega (arith, first_is, second_is, all_is)
 
 -- all of them
-pub storage_as : (diagram : Diagram) (plan : Resolved) (latencies : Latencies) (depths : List ℕ) (lines blocks all : ℕ) → lines ≡ capped (lines_in_all diagram (attributes_of diagram) plan (timing_of latencies []))
+pub storage_as : (diagram : Diagram) (plan : Resolved) (latencies : Latencies) (depths : List ℕ)
+    (lines blocks all : ℕ)
+    → lines ≡ capped (lines_in_all diagram (attributes_of diagram) plan (timing_of latencies []))
     → blocks ≡ capped (registers_in_all diagram (attributes_of diagram) plan + length (shared_operations diagram (attributes_of diagram) plan)) → all ≡ capped (lines + blocks)
     → all ≡ capped (storage diagram (attributes_of diagram) plan (timing_of latencies depths))
 storage_as diagram plan latencies depths lines blocks all lines_are blocks_are all_is =
-    sum_capped (lines_in_all diagram (attributes_of diagram) plan (timing_of latencies depths)) (registers_in_all diagram (attributes_of diagram) plan + length (shared_operations diagram (attributes_of diagram) plan))
+    sum_capped (lines_in_all diagram (attributes_of diagram) plan (timing_of latencies depths))
+    (registers_in_all diagram (attributes_of diagram) plan
+    + length (shared_operations diagram (attributes_of diagram) plan))
     lines blocks all lines_are blocks_are all_is
 
 -- ---- greatest numbers
@@ -184,7 +207,9 @@ output_there : (o : Option Block) → is_root_output o ≡ true → (b : Block) 
 output_there None is = absurd (false≢true is)
 output_there (Some b) is = (b, refl, is)
 
-module _ (diagram : Diagram) (plan : Resolved) (latencies : Latencies) (ready depths : List ℕ) (wired : IsWired diagram) (listed : OutputsAreListed) (are : AreReady diagram plan (timing_of latencies depths) ready) where
+module _ (diagram : Diagram) (plan : Resolved) (latencies : Latencies) (ready depths : List ℕ)
+    (wired : IsWired diagram) (listed : OutputsAreListed)
+    (are : AreReady diagram plan (timing_of latencies depths) ready) where
   abbrev timing : Timing
   timing = timing_of latencies depths
 
@@ -196,8 +221,12 @@ module _ (diagram : Diagram) (plan : Resolved) (latencies : Latencies) (ready de
 
   output_as : (place : ℕ) → place < length diagram.blocks → is_output diagram (attributes_of diagram) place ≡ true → latest place ≡ declared place
   output_as place inside is =
-      let read : slice_index ready place ≡ ready_of diagram (attributes_of diagram) plan timing place = get_or_from_slice_get ready place (ready_of diagram (attributes_of diagram) plan timing place) 0 (are.are place inside) in
-      cond-true (is_output diagram (attributes_of diagram) place) (latency_at latencies.lat place * plan.cycles + slice_index ready place) 0 is ∙ ap (λ (n : ℕ). latency_at latencies.lat place * plan.cycles + n) read
+      let read : slice_index ready place ≡ ready_of diagram (attributes_of diagram) plan timing place =
+      get_or_from_slice_get ready place (ready_of diagram (attributes_of diagram) plan timing place) 0
+      (are.are place inside) in
+      cond-true (is_output diagram (attributes_of diagram) place)
+      (latency_at latencies.lat place * plan.cycles + slice_index ready place) 0 is
+      ∙ ap (λ (n : ℕ). latency_at latencies.lat place * plan.cycles + n) read
 
   shown_low : (place : ℕ) → latest place ≤ greatest_latency diagram (attributes_of diagram) plan timing
   shown_low place = elim (cases_Bool (is_output diagram (attributes_of diagram) place)) [
@@ -218,7 +247,10 @@ module _ (diagram : Diagram) (plan : Resolved) (latencies : Latencies) (ready de
       let inside = slice_get_within diagram.blocks e.block element.0 element.1 in
       let some : 0 < width_into diagram (attributes_of diagram) e.block 1 = let low = element.3 in omega (arith, low) in
       let is : is_output diagram (attributes_of diagram) e.block ≡ true =
-      and_from (is_root_output (slice_get diagram.blocks e.block)) (nat_lt 0 (width_into diagram (attributes_of diagram) e.block 1)) (ap is_root_output element.1 ∙ ap (λ (o : Option ℕ). is_some o) element.2) (lt-ltb 0 (width_into diagram (attributes_of diagram) e.block 1) some) in
+      and_from (is_root_output (slice_get diagram.blocks e.block))
+      (nat_lt 0 (width_into diagram (attributes_of diagram) e.block 1))
+      (ap is_root_output element.1 ∙ ap (λ (o : Option ℕ). is_some o) element.2)
+      (lt-ltb 0 (width_into diagram (attributes_of diagram) e.block 1) some) in
       let low = greatest_from_at latest 0 (length diagram.blocks) e.block (omega arith) (omega (arith, inside)) in
       let same = output_as e.block inside is in
       omega (arith, low, same)

@@ -29,7 +29,9 @@ alone diagram attributes place (suc k) from to at next = absurd (none-some from 
 pub ends_alone : (diagram : Diagram) (attributes : Attributes) (place : ℕ) → EndsWith diagram attributes (place ∷ []) place
 ends_alone diagram attributes place = record { leads = alone diagram attributes place; last = 0; size = refl; ends = refl }
 
-module _ (diagram : Diagram) (attributes : Attributes) (plan : Resolved) (timing : Timing) (fed : AreFed diagram attributes plan timing.fed) (depths : AreDepths diagram attributes plan timing.depths) (place : ℕ) (there : place < length diagram.blocks)
+module _ (diagram : Diagram) (attributes : Attributes) (plan : Resolved) (timing : Timing)
+    (fed : AreFed diagram attributes plan timing.fed) (depths : AreDepths diagram attributes plan timing.depths)
+    (place : ℕ) (there : place < length diagram.blocks)
     (shared : is_shared diagram attributes plan place ≡ true) where
   shared_is_fed : is_marked timing.fed place ≡ true
   shared_is_fed = fed.whole place there (record { source = place; cone = record { path = place ∷ []; leads = alone diagram attributes place; begins = refl; last = 0; ends = refl }; shared = shared })
@@ -38,12 +40,18 @@ module _ (diagram : Diagram) (attributes : Attributes) (plan : Resolved) (timing
   shared_is_deep =
       let most = (depths.are place there).most (place ∷ []) (ends_alone diagram attributes place) in
       let test : ℕ → Bool = λ other. is_shared diagram attributes plan other && is_same_period (attributes.period_at other) (attributes.period_at place) in
-      let one = cond-true {A = ℕ} (test place) 1 0 (and_from (is_shared diagram attributes plan place) (is_same_period (attributes.period_at place) (attributes.period_at place)) shared (same_period (attributes.period_at place))) in
+      let one = cond-true {A = ℕ} (test place) 1 0
+      (and_from (is_shared diagram attributes plan place)
+      (is_same_period (attributes.period_at place) (attributes.period_at place)) shared
+      (same_period (attributes.period_at place))) in
       let sums = sum_by-cons (λ (other : ℕ). cond (test other) 1 0) place [] in
       omega (arith, most, one, sums)
 
   -- a shared block is ready with the first slot behind its level
-  pub shared_ready : (o : Operation) → o.block ≡ place → ready_of diagram attributes plan timing place ≡ base_slot diagram attributes plan timing (samples (attributes.period_at place)) (suc (level_of timing o))
+  pub shared_ready : (o : Operation) → o.block ≡ place
+      → ready_of diagram attributes plan timing place
+      ≡ base_slot diagram attributes plan timing (samples (attributes.period_at place))
+      (suc (level_of timing o))
   shared_ready o is =
       let depth : depth_at timing.depths place ≡ suc (level_of timing o) = let deep = shared_is_deep in let e = ap (depth_at timing.depths) is in omega (arith, deep, e) in
       cond-true (is_marked timing.fed place) (base_slot diagram attributes plan timing (samples (attributes.period_at place)) (depth_at timing.depths place)) 0 shared_is_fed

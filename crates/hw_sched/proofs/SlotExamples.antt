@@ -23,7 +23,14 @@ edge_of from to to_port = record { from = from; from_port = 1; to = to; to_port 
 
 -- signals of one element, of these widths of words and these periods
 abbrev pub scalars : List ℕ → List ℕ → Attributes
-scalars words periods = record { width_at = λ block port. 1; type_at = λ block port. Num true (get_or words block 8) (pos 0); param_at = λ block. Num true 8 (pos 0); period_at = λ block. Some (get_or periods block 1) }
+scalars words periods = record {
+  width_at = λ block port. 1;
+  type_at =
+      λ block port. Num true (get_or words block 8) (pos 0);
+  param_at =
+      λ block. Num true 8 (pos 0);
+  period_at = λ block. Some (get_or periods block 1);
+}
 
 abbrev plan_of : ℕ → Resolved
 plan_of cycles = record { cycles = cycles; multipliers = 1; stages = [] }
@@ -35,7 +42,8 @@ timing_of fed depths = record { lat = []; fed = fed; depths = depths }
 
 abbrev three : Diagram
 three = record {
-  blocks = block_of (Inport 1 0) 0 1 ∷ block_of (Inport 2 0) 0 1 ∷ block_of Product 2 1 ∷ block_of Product 2 1 ∷ block_of Product 2 1 ∷ block_of (Outport 1) 1 0 ∷ block_of (Outport 2) 1 0 ∷ block_of (Outport 3) 1 0 ∷ [];
+  blocks = block_of (Inport 1 0) 0 1 ∷ block_of (Inport 2 0) 0 1 ∷ block_of Product 2 1 ∷ block_of Product 2 1
+      ∷ block_of Product 2 1 ∷ block_of (Outport 1) 1 0 ∷ block_of (Outport 2) 1 0 ∷ block_of (Outport 3) 1 0 ∷ [];
   edges = edge_of 0 2 1 ∷ edge_of 1 2 2 ∷ edge_of 0 3 1 ∷ edge_of 1 3 2 ∷ edge_of 0 4 1 ∷ edge_of 1 4 2 ∷ edge_of 2 5 1 ∷ edge_of 3 6 1 ∷ edge_of 4 7 1 ∷ [];
 }
 
@@ -96,7 +104,8 @@ two_owed = refl
 
 abbrev two_rates : Decimal → Diagram
 two_rates period = record {
-  blocks = block_of (Inport 1 0) 0 1 ∷ block_of (Inport 2 0) 0 1 ∷ block_of (Inport 3 0) 0 1 ∷ block_of Product 2 1 ∷ block_of (RateTransition period []) 1 1 ∷ block_of Product 2 1 ∷ block_of (Outport 1) 1 0 ∷ [];
+  blocks = block_of (Inport 1 0) 0 1 ∷ block_of (Inport 2 0) 0 1 ∷ block_of (Inport 3 0) 0 1 ∷ block_of Product 2 1
+      ∷ block_of (RateTransition period []) 1 1 ∷ block_of Product 2 1 ∷ block_of (Outport 1) 1 0 ∷ [];
   edges = edge_of 0 3 1 ∷ edge_of 1 3 2 ∷ edge_of 3 4 1 ∷ edge_of 4 5 1 ∷ edge_of 2 5 2 ∷ edge_of 5 6 1 ∷ [];
 }
 

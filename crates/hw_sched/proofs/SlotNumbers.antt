@@ -12,9 +12,11 @@ use Rattle.dg_model.specs.declared.resolved.Resolved.{Resolved}
 use Rattle.dg_model.specs.Signals.{Attributes}
 use Rattle.hw_latency.specs.Weight.{samples}
 use Rattle.hw_slots.specs.declared.operation.Operation.{Operation as Cell}
-use Rattle.hw_slots.specs.Slots.{count_at as count_in, needed, level_width as width_in, level_after, levels_of as levels_in, base_slot as base_in, need_of as need_in, turn_of as turn_in, slot_of as slot_in, beside, most_at_once as most_in, units_of_kind as units_in, unit_of as unit_in}
+use Rattle.hw_slots.specs.Slots.{count_at as count_in, needed, level_width as width_in, level_after, levels_of as levels_in, base_slot as base_in, need_of as need_in, turn_of as turn_in}
+use Rattle.hw_slots.specs.Slots.{slot_of as slot_in, beside, most_at_once as most_in, units_of_kind as units_in, unit_of as unit_in}
 use Rattle.math_list.proofs.Sums.{greatest_at, sums_same}
-use Rattle.hw_sched.specs.Slots.{Timing, Operation, OperationKind, shared_operations, kind_of, is_same_kind, level_of, count_at, shared_out, level_width, start_of, base_slot, levels_of, need_of, turn_of, slot_of, most_at_once, units_of_kind, new_kind, kinds_of, before_kind, unit_of}
+use Rattle.hw_sched.specs.Slots.{Timing, Operation, OperationKind, shared_operations, kind_of, is_same_kind, level_of, count_at, shared_out, level_width, start_of, base_slot, levels_of, need_of}
+use Rattle.hw_sched.specs.Slots.{turn_of, slot_of, most_at_once, units_of_kind, new_kind, kinds_of, before_kind, unit_of}
 use Rattle.hw_sched.specs.Laws.{IsOperation}
 use Rattle.hw_sched.specs.Numbered.{OperationsAreNumbered, all_kinds, number_of, cell_of, cells_of}
 use Rattle.hw_sched.proofs.Lists.{greatest_within, stands_filtered, passes}
@@ -58,9 +60,12 @@ next_same : (a b : ℕ) (x : Bool) → (a == b) ≡ x → (suc a == suc b) ≡ x
 next_same a b true e = eq-eqb (suc a) (suc b) (ap (λ (n : ℕ). suc n) (eqb-true a b e))
 next_same a b false e = ne_eqb (suc a) (suc b) (λ same. eqb-false a b e (omega (arith, same)))
 
-kind_number : (kinds : List OperationKind) (kind other : OperationKind) → HasKind kinds kind → HasKind kinds other → (length (before_kind kind kinds) == length (before_kind other kinds)) ≡ is_same_kind kind other
+kind_number : (kinds : List OperationKind) (kind other : OperationKind) → HasKind kinds kind → HasKind kinds other
+    → (length (before_kind kind kinds) == length (before_kind other kinds)) ≡ is_same_kind kind other
 kind_number [] kind other has too = absurd (omega (arith, has))
-kind_number (k ∷ kinds) kind other has too = go (λ a b. kind_number kinds kind other a b) (is_same_kind kind k) (is_same_kind other k) refl refl (count_cons (is_same_kind kind) k kinds) (count_cons (is_same_kind other) k kinds)
+kind_number (k ∷ kinds) kind other has too =
+    go (λ a b. kind_number kinds kind other a b) (is_same_kind kind k) (is_same_kind other k) refl refl
+    (count_cons (is_same_kind kind) k kinds) (count_cons (is_same_kind other) k kinds)
   where
     one : (b : Bool) → is_same_kind kind other ≡ b → is_same_kind kind k ≡ true → is_same_kind other k ≡ true → b ≡ true
     one b e p q = sym e ∙ subst (λ (o : OperationKind). is_same_kind kind o ≡ true) (same_kind kind k p ∙ sym (same_kind other k q)) (own_kind kind)
@@ -73,19 +78,27 @@ kind_number (k ∷ kinds) kind other has too = go (λ a b. kind_number kinds kin
     apart_too x y true p q e f t = absurd (false≢true (sym f ∙ sym p ∙ ap (λ (o : OperationKind). is_same_kind o k) (same_kind kind other e) ∙ q ∙ t))
     apart_too x y false p q e f t = refl
 
-    go : (HasKind kinds kind → HasKind kinds other → (length (before_kind kind kinds) == length (before_kind other kinds)) ≡ is_same_kind kind other) → (x y : Bool) → is_same_kind kind k ≡ x → is_same_kind other k ≡ y → count_by (is_same_kind kind) (k ∷ kinds) ≡ cond x 1 0 + count_by (is_same_kind kind) kinds
-        → count_by (is_same_kind other) (k ∷ kinds) ≡ cond y 1 0 + count_by (is_same_kind other) kinds → (length (cond x [] (k ∷ before_kind kind kinds)) == length (cond y [] (k ∷ before_kind other kinds))) ≡ is_same_kind kind other
+    go : (HasKind kinds kind → HasKind kinds other
+        → (length (before_kind kind kinds) == length (before_kind other kinds)) ≡ is_same_kind kind other)
+        → (x y : Bool) → is_same_kind kind k ≡ x → is_same_kind other k ≡ y
+        → count_by (is_same_kind kind) (k ∷ kinds) ≡ cond x 1 0 + count_by (is_same_kind kind) kinds
+        → count_by (is_same_kind other) (k ∷ kinds) ≡ cond y 1 0 + count_by (is_same_kind other) kinds
+        → (length (cond x [] (k ∷ before_kind kind kinds)) == length (cond y [] (k ∷ before_kind other kinds)))
+        ≡ is_same_kind kind other
     go rest true true p q c d = sym (one (is_same_kind kind other) refl p q)
     go rest true false p q c d = ne_eqb 0 (suc (length (before_kind other kinds))) (λ e. absurd (omega (arith, e))) ∙ apart true false (is_same_kind kind other) p q refl refl refl
     go rest false true p q c d = ne_eqb (suc (length (before_kind kind kinds))) 0 (λ e. absurd (omega (arith, e))) ∙ apart_too false true (is_same_kind kind other) p q refl refl refl
     go rest false false p q c d = next_same (length (before_kind kind kinds)) (length (before_kind other kinds)) (is_same_kind kind other) (rest (omega (arith, has, c)) (omega (arith, too, d)))
 
 -- a kind that is new stands behind all others
-pub none_before : (kinds : List OperationKind) (kind last : OperationKind) → count_by (is_same_kind kind) kinds ≡ 0 → is_same_kind kind last ≡ true → length (before_kind kind (kinds ++ last ∷ [])) ≡ length kinds
+pub none_before : (kinds : List OperationKind) (kind last : OperationKind) → count_by (is_same_kind kind) kinds ≡ 0
+    → is_same_kind kind last ≡ true → length (before_kind kind (kinds ++ last ∷ [])) ≡ length kinds
 none_before [] kind last none same = ap (λ (b : Bool). length (cond b [] (last ∷ []))) same
 none_before (k ∷ kinds) kind last none same = go (λ none. none_before kinds kind last none same) (is_same_kind kind k) (count_cons (is_same_kind kind) k kinds)
   where
-    go : (count_by (is_same_kind kind) kinds ≡ 0 → length (before_kind kind (kinds ++ last ∷ [])) ≡ length kinds) → (b : Bool) → count_by (is_same_kind kind) (k ∷ kinds) ≡ cond b 1 0 + count_by (is_same_kind kind) kinds → length (cond b [] (k ∷ before_kind kind (kinds ++ last ∷ []))) ≡ suc (length kinds)
+    go : (count_by (is_same_kind kind) kinds ≡ 0 → length (before_kind kind (kinds ++ last ∷ [])) ≡ length kinds)
+        → (b : Bool) → count_by (is_same_kind kind) (k ∷ kinds) ≡ cond b 1 0 + count_by (is_same_kind kind) kinds
+        → length (cond b [] (k ∷ before_kind kind (kinds ++ last ∷ []))) ≡ suc (length kinds)
     go rest true e = absurd (omega (arith, none, e))
     go rest false e = let more = rest (omega (arith, none, e)) in omega (arith, more)
 
@@ -106,11 +119,16 @@ module _ (diagram : Diagram) (attributes : Attributes) (plan : Resolved) (timing
   cells = cells_of diagram attributes plan timing
 
   pub numbers_same : (n m : ℕ) (o q : Operation) → slice_get all n ≡ Some o → slice_get all m ≡ Some q → (number (kind_at o) == number (kind_at q)) ≡ is_same_kind (kind_at o) (kind_at q)
-  numbers_same n m o q at too = kind_number (all_kinds diagram attributes plan timing) (kind_at o) (kind_at q) (own_listed diagram attributes plan timing all [] n o at) (own_listed diagram attributes plan timing all [] m q too)
+  numbers_same n m o q at too = kind_number (all_kinds diagram attributes plan timing) (kind_at o) (kind_at q)
+      (own_listed diagram attributes plan timing all [] n o at)
+      (own_listed diagram attributes plan timing all [] m q too)
 
   -- ---- counts and turns
 
-  counts_as : (xs : List Operation) (m : ℕ) (o : Operation) (level : ℕ) → ((k : ℕ) (x : Operation) → slice_get xs k ≡ Some x → (n : ℕ) × (slice_get all n ≡ Some x)) → slice_get all m ≡ Some o → count_in (map cell xs) (number (kind_at o)) level ≡ count_at diagram attributes timing xs (kind_at o) level
+  counts_as : (xs : List Operation) (m : ℕ) (o : Operation) (level : ℕ)
+      → ((k : ℕ) (x : Operation) → slice_get xs k ≡ Some x → (n : ℕ) × (slice_get all n ≡ Some x))
+      → slice_get all m ≡ Some o → count_in (map cell xs) (number (kind_at o)) level
+      ≡ count_at diagram attributes timing xs (kind_at o) level
   counts_as xs m o level inside at = counts_same cell (λ x. is_same_kind (kind_at x) (kind_at o) && (level_of timing x == level)) (λ c. (c.kind == number (kind_at o)) && (c.level == level)) xs
       (λ k x there. let place = inside k x there in ap (λ (b : Bool). b && (level_of timing x == level)) (numbers_same place.0 m x o place.1 at))
 
@@ -118,7 +136,9 @@ module _ (diagram : Diagram) (attributes : Attributes) (plan : Resolved) (timing
   count_all m o level at = counts_as all m o level (λ k x there. (k, there)) at
 
   pub turns_as : (n : ℕ) (o : Operation) → IsOperation diagram attributes plan n o → turn_in cells n (cell o) ≡ turn_of diagram attributes plan timing n o
-  turns_as n o at = ap (λ (xs : List Cell). count_in xs (number (kind_at o)) (level_of timing o)) (mapped_take cell n all) ∙ counts_as (take n all) n o (level_of timing o) (λ k x there. (k, taken_from n all k x there)) at
+  turns_as n o at = ap (λ (xs : List Cell). count_in xs (number (kind_at o)) (level_of timing o))
+      (mapped_take cell n all)
+      ∙ counts_as (take n all) n o (level_of timing o) (λ k x there. (k, taken_from n all k x there)) at
 
   -- ---- the widths of levels
 
@@ -131,7 +151,8 @@ module _ (diagram : Diagram) (attributes : Attributes) (plan : Resolved) (timing
   out_of_none : (multipliers : ℕ) → 0 < multipliers → shared_out 0 multipliers ≡ 0
   out_of_none multipliers some = let e = div_below (0 + (multipliers - 1)) multipliers 1 some (omega (arith, some)) in omega (arith, e)
 
-  needed_there : (period level : ℕ) (o : Operation) (n : ℕ) → slice_get all n ≡ Some o → is_of period o ≡ true → level_of timing o ≡ level → needed cells plan.multipliers period level (cell o) ≡ needs level o
+  needed_there : (period level : ℕ) (o : Operation) (n : ℕ) → slice_get all n ≡ Some o → is_of period o ≡ true
+      → level_of timing o ≡ level → needed cells plan.multipliers period level (cell o) ≡ needs level o
   needed_there period level o n at is same =
       cond-true ((samples (attributes.period_at o.block) == period) && (level_of timing o == level)) (shared_out (count_in cells (number (kind_at o)) (level_of timing o)) plan.multipliers) 0
       (and_from (is_of period o) (level_of timing o == level) is (eq-eqb (level_of timing o) level same))
@@ -159,7 +180,10 @@ module _ (diagram : Diagram) (attributes : Attributes) (plan : Resolved) (timing
           omega (arith, none)
       go (suc count) e = there (omega (arith, e))
 
-  width_below : (period level : ℕ) (o : Operation) (n : ℕ) (test : Bool) → slice_get all n ≡ Some o → ((samples (attributes.period_at o.block) == period) && (level_of timing o == level)) ≡ test → needed cells plan.multipliers period level (cell o) ≤ level_width diagram attributes plan timing period level
+  width_below : (period level : ℕ) (o : Operation) (n : ℕ) (test : Bool) → slice_get all n ≡ Some o
+      → ((samples (attributes.period_at o.block) == period) && (level_of timing o == level)) ≡ test
+      → needed cells plan.multipliers period level (cell o)
+      ≤ level_width diagram attributes plan timing period level
   width_below period level o n true at e =
       let parts = and_parts (is_of period o) (level_of timing o == level) e in
       let need = needed_there period level o n at parts.0 (eqb-true (level_of timing o) level parts.1) in
@@ -167,7 +191,9 @@ module _ (diagram : Diagram) (attributes : Attributes) (plan : Resolved) (timing
       let most = greatest_at (needs level) (filter (is_of period) all) stands.place o stands.at in
       omega (arith, need, most)
   width_below period level o n false at e =
-      let none : needed cells plan.multipliers period level (cell o) ≡ 0 = cond-false ((samples (attributes.period_at o.block) == period) && (level_of timing o == level)) (shared_out (count_in cells (number (kind_at o)) (level_of timing o)) plan.multipliers) 0 e in
+      let none : needed cells plan.multipliers period level (cell o) ≡ 0 =
+      cond-false ((samples (attributes.period_at o.block) == period) && (level_of timing o == level))
+      (shared_out (count_in cells (number (kind_at o)) (level_of timing o)) plan.multipliers) 0 e in
       omega (arith, none)
 
   pub widths_as : (period level : ℕ) → width_in cells plan.multipliers period level ≡ level_width diagram attributes plan timing period level
@@ -198,7 +224,9 @@ module _ (diagram : Diagram) (attributes : Attributes) (plan : Resolved) (timing
   pub needs_as : (period : ℕ) → need_in cells plan.multipliers (start_of diagram attributes plan period) period ≡ need_of diagram attributes plan timing period
   needs_as period = bases_as period (levels_in cells period) ∙ ap (base_slot diagram attributes plan timing period) (levels_as period)
 
-  pub slots_as : (n : ℕ) (o : Operation) → IsOperation diagram attributes plan n o → slot_in cells plan.multipliers (start_of diagram attributes plan (samples (attributes.period_at o.block))) n (cell o) ≡ slot_of diagram attributes plan timing n o
+  pub slots_as : (n : ℕ) (o : Operation) → IsOperation diagram attributes plan n o
+      → slot_in cells plan.multipliers (start_of diagram attributes plan (samples (attributes.period_at o.block))) n
+      (cell o) ≡ slot_of diagram attributes plan timing n o
   slots_as n o at =
       let base = bases_as (samples (attributes.period_at o.block)) (level_of timing o) in
       let row = ap (λ (t : ℕ). t / plan.multipliers) (turns_as n o at) in
@@ -206,10 +234,15 @@ module _ (diagram : Diagram) (attributes : Attributes) (plan : Resolved) (timing
 
   -- ---- multipliers
 
-  beside_as : (m : ℕ) (o x : Operation) (n : ℕ) (test : Bool) → slice_get all m ≡ Some o → slice_get all n ≡ Some x → (number (kind_at x) == number (kind_at o)) ≡ test → beside cells (number (kind_at o)) (cell x) ≡ cond test (count_at diagram attributes timing all (kind_at o) (level_of timing x)) 0
+  beside_as : (m : ℕ) (o x : Operation) (n : ℕ) (test : Bool) → slice_get all m ≡ Some o → slice_get all n ≡ Some x
+      → (number (kind_at x) == number (kind_at o)) ≡ test
+      → beside cells (number (kind_at o)) (cell x)
+      ≡ cond test (count_at diagram attributes timing all (kind_at o) (level_of timing x)) 0
   beside_as m o x n true at there e =
       let kind : ◌≡◌ {A = OperationKind} (kind_at x) (kind_at o) = same_kind (kind_at x) (kind_at o) (sym (numbers_same n m x o there at) ∙ e) in
-      cond-true (number (kind_at x) == number (kind_at o)) (count_in cells (number (kind_at x)) (level_of timing x)) 0 e ∙ count_all n x (level_of timing x) there ∙ ap (λ (k : OperationKind). count_at diagram attributes timing all k (level_of timing x)) kind
+      cond-true (number (kind_at x) == number (kind_at o))
+      (count_in cells (number (kind_at x)) (level_of timing x)) 0 e ∙ count_all n x (level_of timing x) there
+      ∙ ap (λ (k : OperationKind). count_at diagram attributes timing all k (level_of timing x)) kind
   beside_as m o x n false at there e = cond-false (number (kind_at x) == number (kind_at o)) (count_in cells (number (kind_at x)) (level_of timing x)) 0 e
 
   abbrev at_once : Operation → Operation → ℕ
@@ -232,7 +265,9 @@ module _ (diagram : Diagram) (attributes : Attributes) (plan : Resolved) (timing
       go zero e = omega (arith, e)
       go (suc count) e = there (omega (arith, e))
 
-  beside_within : (m : ℕ) (o x : Operation) (n : ℕ) (test : Bool) → slice_get all m ≡ Some o → slice_get all n ≡ Some x → (number (kind_at x) == number (kind_at o)) ≡ test → beside cells (number (kind_at o)) (cell x) ≤ most_at_once diagram attributes plan timing (kind_at o)
+  beside_within : (m : ℕ) (o x : Operation) (n : ℕ) (test : Bool) → slice_get all m ≡ Some o
+      → slice_get all n ≡ Some x → (number (kind_at x) == number (kind_at o)) ≡ test
+      → beside cells (number (kind_at o)) (cell x) ≤ most_at_once diagram attributes plan timing (kind_at o)
   beside_within m o x n true at there e =
       let is = beside_as m o x n true at there e in
       let most = greatest_at (at_once o) all n x there in
@@ -265,12 +300,18 @@ module _ (diagram : Diagram) (attributes : Attributes) (plan : Resolved) (timing
   kept_before [] kind last k below e = absurd (omega (arith, below))
   kept_before (x ∷ kinds) kind last k below e = go (λ k below e. kept_before kinds kind last k below e) (is_same_kind kind x) k below e
     where
-      go : ((k : ℕ) → k < length kinds → length (before_kind kind kinds) ≡ k → length (before_kind kind (kinds ++ last ∷ [])) ≡ k) → (b : Bool) (k : ℕ) → k < suc (length kinds) → length (cond b [] (x ∷ before_kind kind kinds)) ≡ k → length (cond b [] (x ∷ before_kind kind (kinds ++ last ∷ []))) ≡ k
+      go : ((k : ℕ) → k < length kinds → length (before_kind kind kinds) ≡ k
+          → length (before_kind kind (kinds ++ last ∷ [])) ≡ k) → (b : Bool) (k : ℕ) → k < suc (length kinds)
+          → length (cond b [] (x ∷ before_kind kind kinds)) ≡ k
+          → length (cond b [] (x ∷ before_kind kind (kinds ++ last ∷ []))) ≡ k
       go rest true k below e = e
       go rest false zero below e = absurd (omega (arith, e))
       go rest false (suc k) below e = let more = rest k (omega (arith, below)) (omega (arith, e)) in omega (arith, more)
 
-  pushed : (kinds : List OperationKind) (last kind : OperationKind) (k : ℕ) → slice_get (kinds ++ last ∷ []) k ≡ Some kind → ((k < length kinds) × (slice_get kinds k ≡ Some kind)) ⊎ ((k ≡ length kinds) × (◌≡◌ {A = OperationKind} last kind))
+  pushed : (kinds : List OperationKind) (last kind : OperationKind) (k : ℕ)
+      → slice_get (kinds ++ last ∷ []) k ≡ Some kind
+      → ((k < length kinds) × (slice_get kinds k ≡ Some kind))
+      ⊎ ((k ≡ length kinds) × (◌≡◌ {A = OperationKind} last kind))
   pushed [] last kind zero at = inr (refl, same_Some last kind at)
   pushed [] last kind (suc k) at = absurd (none-some kind at)
   pushed (x ∷ kinds) last kind zero at = inl (omega arith, at)
@@ -294,7 +335,9 @@ module _ (diagram : Diagram) (attributes : Attributes) (plan : Resolved) (timing
             record { place = omega (arith, fresh, place, moved); n = n; o = o; at = there; is = sym end.1 }
       ]
 
-  listed_all : (operations : List Operation) (kinds : List OperationKind) → ((k : ℕ) (x : Operation) → slice_get operations k ≡ Some x → (n : ℕ) × (slice_get all n ≡ Some x)) → AreListed kinds → AreListed (kinds_of diagram attributes timing kinds operations)
+  listed_all : (operations : List Operation) (kinds : List OperationKind)
+      → ((k : ℕ) (x : Operation) → slice_get operations k ≡ Some x → (n : ℕ) × (slice_get all n ≡ Some x))
+      → AreListed kinds → AreListed (kinds_of diagram attributes timing kinds operations)
   listed_all [] kinds inside listed = listed
   listed_all (o ∷ operations) kinds inside listed =
       let first = inside 0 o refl in
@@ -312,7 +355,9 @@ module _ (diagram : Diagram) (attributes : Attributes) (plan : Resolved) (timing
       let most = most_as one.n one.o one.at in
       ap (units_in cells plan.multipliers) (sym e) ∙ ap (min plan.multipliers) most ∙ ap (units_of_kind diagram attributes plan timing) (sym one.is)
 
-  firsts_from : (kinds : List OperationKind) (from : ℕ) (kind : OperationKind) → ((k : ℕ) (other : OperationKind) → slice_get kinds k ≡ Some other → units_in cells plan.multipliers (from + k) ≡ units_of_kind diagram attributes plan timing other)
+  firsts_from : (kinds : List OperationKind) (from : ℕ) (kind : OperationKind)
+      → ((k : ℕ) (other : OperationKind) → slice_get kinds k ≡ Some other
+      → units_in cells plan.multipliers (from + k) ≡ units_of_kind diagram attributes plan timing other)
       → sum (map (units_in cells plan.multipliers) (numbers_from from (length (before_kind kind kinds)))) ≡ sum (map (units_of_kind diagram attributes plan timing) (before_kind kind kinds))
   firsts_from [] from kind same = refl
   firsts_from (x ∷ kinds) from kind same =
@@ -321,13 +366,26 @@ module _ (diagram : Diagram) (attributes : Attributes) (plan : Resolved) (timing
     where
       go : (b : Bool) → units_in cells plan.multipliers from ≡ units_of_kind diagram attributes plan timing x
           → sum (map (units_in cells plan.multipliers) (numbers_from (suc from) (length (before_kind kind kinds)))) ≡ sum (map (units_of_kind diagram attributes plan timing) (before_kind kind kinds))
-          → sum (map (units_in cells plan.multipliers) (numbers_from from (length (cond b [] (x ∷ before_kind kind kinds))))) ≡ sum (map (units_of_kind diagram attributes plan timing) (cond b [] (x ∷ before_kind kind kinds)))
+          → sum (map (units_in cells plan.multipliers)
+          (numbers_from from (length (cond b [] (x ∷ before_kind kind kinds)))))
+          ≡ sum
+          (map (units_of_kind diagram attributes plan timing) (cond b [] (x ∷ before_kind kind kinds)))
       go true one rest = refl
-      go false one rest = omega (arith, one, rest, sum_by-cons (λ (k : ℕ). k) (units_in cells plan.multipliers from) (map (units_in cells plan.multipliers) (numbers_from (suc from) (length (before_kind kind kinds)))), sum_by-cons (λ (k : ℕ). k) (units_of_kind diagram attributes plan timing x) (map (units_of_kind diagram attributes plan timing) (before_kind kind kinds)))
+      go false one rest = omega (
+        arith,
+        one,
+        rest,
+        sum_by-cons (λ (k : ℕ). k) (units_in cells plan.multipliers from)
+            (map (units_in cells plan.multipliers) (numbers_from (suc from) (length (before_kind kind kinds)))),
+        sum_by-cons (λ (k : ℕ). k) (units_of_kind diagram attributes plan timing x)
+            (map (units_of_kind diagram attributes plan timing) (before_kind kind kinds)),
+      )
 
   pub units_numbered : (n : ℕ) (o : Operation) → IsOperation diagram attributes plan n o → unit_in cells plan.multipliers n (cell o) ≡ unit_of diagram attributes plan timing n o
   units_numbered n o at =
-      let first = firsts_from (all_kinds diagram attributes plan timing) 0 (kind_at o) (λ k other there. let e : 0 + k ≡ k = omega arith in ap (units_in cells plan.multipliers) e ∙ units_as k other there) in
+      let first = firsts_from (all_kinds diagram attributes plan timing) 0 (kind_at o)
+      (λ k other there. let e : 0 + k ≡ k =
+      omega arith in ap (units_in cells plan.multipliers) e ∙ units_as k other there) in
       let place = ap (λ (t : ℕ). t % plan.multipliers) (turns_as n o at) in
       omega (arith, first, place)
 

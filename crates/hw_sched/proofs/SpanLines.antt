@@ -1,5 +1,6 @@
 -- The slots of periods, line by line and period by period.
-use Rattle.std.proofs.Common.{◌≡◌, ℕ, ◌+◌, ◌-◌, ◌*◌, ◌<◌, ◌≤◌, max, Bool, true, false, cond, Option, Some, None, List, [], ◌∷◌, ◌++◌, length, refl, sym, ap, subst, ◌∙◌, inl, inr, length-append, arith, mul-le-mul_right}
+use Rattle.std.proofs.Common.{◌≡◌, ℕ, ◌+◌, ◌-◌, ◌*◌, ◌<◌, ◌≤◌, max, Bool, true, false, cond, Option, Some, None, List, [], ◌∷◌, ◌++◌, length, refl, sym, ap, subst, ◌∙◌, inl, inr, length-append, arith}
+use Rattle.std.proofs.Common.{mul-le-mul_right}
 use Rattle.std.specs.Prelude.{slice_get, slice_index, nat_lt, ◌&&◌, ◌==◌}
 use Rattle.std.proofs.lemmas.Bool.{cases_lt, cases_eq, cond-true, cond-false, and_left, and_right, eqb-true, eq-eqb, ne_eqb, ltb-true}
 use Rattle.std.proofs.lemmas.List.{take_all, get_or_past}
@@ -42,7 +43,9 @@ pub record AreWithin (diagram : Diagram) (count longest : ℕ) : Type 0 where
 pub within_none : (diagram : Diagram) → AreWithin diagram 0 0
 within_none diagram = record { are = λ place below. absurd (omega (arith, below)); short = omega arith }
 
-pub within_more : (diagram : Diagram) (place longest next period : ℕ) → IsChecked diagram → period ≡ samples ((attributes_of diagram).period_at place) → next ≡ max longest period → AreWithin diagram place longest → AreWithin diagram (place + 1) next
+pub within_more : (diagram : Diagram) (place longest next period : ℕ) → IsChecked diagram
+    → period ≡ samples ((attributes_of diagram).period_at place) → next ≡ max longest period
+    → AreWithin diagram place longest → AreWithin diagram (place + 1) next
 within_more diagram place longest next period checked is most before = record {
   are = λ other below. elim (cases_lt other place) [
     | inl less ↦ let low = before.are other less in omega (arith, low, most)
@@ -90,7 +93,9 @@ module _ (diagram : Diagram) (edge : Edge) where
     where
       go : (block : Option Block) → shorter_into (attributes_of diagram) period edge block ≡ 0
       go None = refl
-      go (Some block) = cond-false (joins block && ((own == period) && nat_lt source period)) source 0 (and_right (joins block) ((own == period) && nat_lt source period) (and_left (own == period) (nat_lt source period) (ne_eqb own period differ)))
+      go (Some block) = cond-false (joins block && ((own == period) && nat_lt source period)) source 0
+          (and_right (joins block) ((own == period) && nat_lt source period)
+          (and_left (own == period) (nat_lt source period) (ne_eqb own period differ)))
 
   -- where there is one, the line ends at a block of the period
   pub shorter_there : (period : ℕ) → 0 < shorter period → (own ≡ period) × (0 < period)
@@ -157,7 +162,9 @@ module _ (diagram : Diagram) where
     short = λ period. elim (cases_lt period (length longest)) [
       | inl below ↦
           let is = whole period below in
-          let low = greatest_within (λ (e : Edge). shorter_into (attributes_of diagram) period e (slice_get diagram.blocks e.to)) 4096 diagram.edges (λ k e at. shorter_short diagram e period checked) in
+          let low = greatest_within (λ (e : Edge). shorter_into (attributes_of diagram) period e
+          (slice_get diagram.blocks e.to)) 4096 diagram.edges
+          (λ k e at. shorter_short diagram e period checked) in
           omega (arith, is, low)
       | inr behind ↦ let none = get_or_past longest period 0 behind in omega (arith, none)
     ];
@@ -181,7 +188,8 @@ module _ (diagram : Diagram) (plan : Resolved) where
       let one = mul-le-mul_right {m = period} {n = 4096} plan.cycles short in
       omega (arith, one, few)
 
-  pub spans_more : (period : ℕ) (longest : List ℕ) (spans : List Span) (start have : ℕ) → AreLongest diagram longest → period < length longest → start ≡ slice_index longest period * plan.cycles → have ≡ period * plan.cycles - 1
+  pub spans_more : (period : ℕ) (longest : List ℕ) (spans : List Span) (start have : ℕ) → AreLongest diagram longest
+      → period < length longest → start ≡ slice_index longest period * plan.cycles → have ≡ period * plan.cycles - 1
       → AreSpansTo diagram plan period spans → AreSpansTo diagram plan (period + 1) (spans ++ span start have ∷ [])
   spans_more period longest spans start have known below starts haves before = record {
     size = let push = length-append spans (span start have ∷ []) in let was = before.size in omega (arith, push, was);
@@ -196,7 +204,9 @@ module _ (diagram : Diagram) (plan : Resolved) where
     ];
   }
 
-  pub spans_end : (period : ℕ) (longest : List ℕ) (spans : List Span) → AreLongest diagram longest → length longest ≤ period → period ≤ length longest → AreSpansTo diagram plan period spans → AreSpans diagram plan spans
+  pub spans_end : (period : ℕ) (longest : List ℕ) (spans : List Span) → AreLongest diagram longest
+      → length longest ≤ period → period ≤ length longest → AreSpansTo diagram plan period spans
+      → AreSpans diagram plan spans
   spans_end period longest spans known past within to =
       let e : length longest ≡ length spans = let size = to.size in omega (arith, past, within, size) in
       record {

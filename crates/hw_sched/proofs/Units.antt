@@ -13,7 +13,8 @@ use Rattle.dg_model.specs.Signals.{Attributes}
 use Rattle.hw_latency.specs.Weight.{samples}
 use Rattle.math_list.proofs.Places.{count_cons, sum-cons}
 use Rattle.math_list.proofs.Sums.{greatest_at}
-use Rattle.hw_sched.specs.Slots.{Timing, Operation, OperationKind, shared_operations, kind_of, is_same_kind, level_of, count_at, base_slot, turn_of, slot_of, units_of_kind, new_kind, kinds_of, before_kind}
+use Rattle.hw_sched.specs.Slots.{Timing, Operation, OperationKind, shared_operations, kind_of, is_same_kind, level_of, count_at, base_slot, turn_of, slot_of, units_of_kind, new_kind, kinds_of}
+use Rattle.hw_sched.specs.Slots.{before_kind}
 use Rattle.hw_sched.specs.Laws.{IsOperation, SlotsDiffer, UnitsAreThere}
 use Rattle.hw_sched.proofs.Lists.{count_rises}
 use Rattle.hw_sched.proofs.Bases.{same_kind, own_kind, of_shared, counts_itself, turn_below, slot_within, base_rises}
@@ -38,7 +39,10 @@ module _ (units : OperationKind → ℕ) (kind other : OperationKind) (a b : ℕ
   one_unit (k ∷ kinds) has too e =
       go (λ has too e. one_unit kinds has too e) (is_same_kind kind k) (is_same_kind other k) refl refl (count_cons (is_same_kind kind) k kinds) (count_cons (is_same_kind other) k kinds) e
     where
-      go : (HasKind kinds kind → HasKind kinds other → before kind kinds + a ≡ before other kinds + b → IsOneUnit units kinds kind other a b) → (x y : Bool) → is_same_kind kind k ≡ x → is_same_kind other k ≡ y → count_by (is_same_kind kind) (k ∷ kinds) ≡ cond x 1 0 + count_by (is_same_kind kind) kinds
+      go : (HasKind kinds kind → HasKind kinds other → before kind kinds + a ≡ before other kinds + b
+          → IsOneUnit units kinds kind other a b) → (x y : Bool) → is_same_kind kind k ≡ x
+          → is_same_kind other k ≡ y → count_by (is_same_kind kind) (k ∷ kinds)
+          ≡ cond x 1 0 + count_by (is_same_kind kind) kinds
           → count_by (is_same_kind other) (k ∷ kinds) ≡ cond y 1 0 + count_by (is_same_kind other) kinds
           → sum (map units (cond x [] (k ∷ before_kind kind kinds))) + a ≡ sum (map units (cond y [] (k ∷ before_kind other kinds))) + b → IsOneUnit units (k ∷ kinds) kind other a b
       go rest true true p q c d e = record { same = same_kind kind k p ∙ sym (same_kind other k q); place = omega (arith, e) }
@@ -86,7 +90,9 @@ module _ (diagram : Diagram) (attributes : Attributes) (plan : Resolved) (timing
           let one = cond-true {A = ℕ} (is_same_kind (kind_at o) (kind_at o)) 1 0 (own_kind (kind_at o)) in
           omega (arith, push, one)
 
-  pub own_listed : (operations : List Operation) (kinds : List OperationKind) (number : ℕ) (o : Operation) → slice_get operations number ≡ Some o → HasKind (kinds_of diagram attributes timing kinds operations) (kind_at o)
+  pub own_listed : (operations : List Operation) (kinds : List OperationKind) (number : ℕ) (o : Operation)
+      → slice_get operations number ≡ Some o
+      → HasKind (kinds_of diagram attributes timing kinds operations) (kind_at o)
   own_listed [] kinds number o at = absurd (none-some o at)
   own_listed (x ∷ operations) kinds zero o at =
       subst (λ (q : Operation). HasKind (kinds_of diagram attributes timing kinds (x ∷ operations)) (kind_at q)) (same_Some x o at)
@@ -108,7 +114,9 @@ module _ (diagram : Diagram) (attributes : Attributes) (plan : Resolved) (timing
       omega (arith, rest, low, few, most)
 
   -- an operation's turn comes after those of its kind and level before it
-  turn_rises : (number other : ℕ) (o q : Operation) → IsOperation diagram attributes plan number o → ◌≡◌ {A = OperationKind} (kind_at o) (kind_at q) → level_of timing o ≡ level_of timing q → number < other → turn number o < turn other q
+  turn_rises : (number other : ℕ) (o q : Operation) → IsOperation diagram attributes plan number o
+      → ◌≡◌ {A = OperationKind} (kind_at o) (kind_at q) → level_of timing o ≡ level_of timing q → number < other
+      → turn number o < turn other q
   turn_rises number other o q at kind level less =
       let counts : OperationKind → ℕ → Operation → Bool = λ k l x. is_same_kind (kind_at x) k && (level_of timing x == l) in
       let rises = count_rises (counts (kind_at o) (level_of timing o)) all number other o at (counts_itself diagram attributes plan timing o) less in
@@ -118,7 +126,8 @@ module _ (diagram : Diagram) (attributes : Attributes) (plan : Resolved) (timing
 
   -- ---- levels by their slots
 
-  no_earlier : (number other : ℕ) (o q : Operation) (period : ℕ) → IsOperation diagram attributes plan number o → samples (attributes.period_at o.block) ≡ period → samples (attributes.period_at q.block) ≡ period
+  no_earlier : (number other : ℕ) (o q : Operation) (period : ℕ) → IsOperation diagram attributes plan number o
+      → samples (attributes.period_at o.block) ≡ period → samples (attributes.period_at q.block) ≡ period
       → level_of timing o < level_of timing q → slot_of diagram attributes plan timing number o < slot_of diagram attributes plan timing other q
   no_earlier number other o q period at is too less =
       let within = slot_within diagram attributes plan timing number o period at is in
@@ -172,11 +181,14 @@ slots_differ diagram attributes plan timing number other o q differ at too unit 
     }
 
 -- the multipliers of a kind stand among those of all
-kind_within : (units : OperationKind → ℕ) (kinds : List OperationKind) (kind : OperationKind) (a : ℕ) → HasKind kinds kind → a < units kind → sum (map units (before_kind kind kinds)) + a < sum (map units kinds)
+kind_within : (units : OperationKind → ℕ) (kinds : List OperationKind) (kind : OperationKind) (a : ℕ)
+    → HasKind kinds kind → a < units kind → sum (map units (before_kind kind kinds)) + a < sum (map units kinds)
 kind_within units [] kind a has below = absurd (omega (arith, has))
 kind_within units (k ∷ kinds) kind a has below = go (λ later. kind_within units kinds kind a later below) (is_same_kind kind k) refl (count_cons (is_same_kind kind) k kinds)
   where
-    go : (HasKind kinds kind → sum (map units (before_kind kind kinds)) + a < sum (map units kinds)) → (x : Bool) → is_same_kind kind k ≡ x → count_by (is_same_kind kind) (k ∷ kinds) ≡ cond x 1 0 + count_by (is_same_kind kind) kinds
+    go : (HasKind kinds kind → sum (map units (before_kind kind kinds)) + a < sum (map units kinds)) → (x : Bool)
+        → is_same_kind kind k ≡ x → count_by (is_same_kind kind) (k ∷ kinds)
+        ≡ cond x 1 0 + count_by (is_same_kind kind) kinds
         → sum (map units (cond x [] (k ∷ before_kind kind kinds))) + a < sum (map units (k ∷ kinds))
     go rest true p c =
         let s = sum-cons (units k) (map units kinds) in
@@ -191,5 +203,6 @@ kind_within units (k ∷ kinds) kind a has below = go (λ later. kind_within uni
 pub units_are_there : UnitsAreThere
 units_are_there diagram attributes plan timing number o at =
     let operations = shared_operations diagram attributes plan in
-    kind_within (units_of_kind diagram attributes plan timing) (kinds_of diagram attributes timing [] operations) (kind_of diagram attributes timing o) (turn_of diagram attributes plan timing number o % plan.multipliers)
+    kind_within (units_of_kind diagram attributes plan timing) (kinds_of diagram attributes timing [] operations)
+    (kind_of diagram attributes timing o) (turn_of diagram attributes plan timing number o % plan.multipliers)
     (own_listed diagram attributes plan timing operations [] number o at) (place_below diagram attributes plan timing number o at)

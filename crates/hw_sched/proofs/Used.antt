@@ -67,7 +67,9 @@ none_passes : {A : Type 0} (p : A → Bool) (xs : List A) (k : ℕ) (x : A) → 
 none_passes p [] k x none at = absurd (none-some x at)
 none_passes {A} p (y ∷ xs) k x none at = go (λ j later there. none_passes p xs j x later there) (p y) refl (count_cons p y xs) k at
   where
-    go : ((j : ℕ) → count_by p xs ≡ 0 → slice_get xs j ≡ Some x → p x ≡ false) → (is : Bool) → p y ≡ is → count_by p (y ∷ xs) ≡ cond (p y) 1 0 + count_by p xs → (k : ℕ) → slice_get (y ∷ xs) k ≡ Some x → p x ≡ false
+    go : ((j : ℕ) → count_by p xs ≡ 0 → slice_get xs j ≡ Some x → p x ≡ false) → (is : Bool) → p y ≡ is
+        → count_by p (y ∷ xs) ≡ cond (p y) 1 0 + count_by p xs → (k : ℕ) → slice_get (y ∷ xs) k ≡ Some x
+        → p x ≡ false
     go rest true is sums k at = let one = cond-true {A = ℕ} (p y) 1 0 is in absurd (omega (arith, none, sums, one))
     go rest false is sums zero at = ap p (sym (same_Some y x at)) ∙ is
     go rest false is sums (suc k) at = rest k (omega (arith, none, sums)) at
@@ -120,7 +122,11 @@ owner_of units (k ∷ kinds) unit are below = elim (cases_lt unit (units k)) [
   }
   | inr past ↦
       let total = sum-cons (units k) (map units kinds) in
-      let later = owner_of units kinds (unit - units k) (record { apart = λ i j one other less at there. are.apart (suc i) (suc j) one other (omega (arith, less)) at there }) (omega (arith, below, total, past)) in
+      let later = owner_of units kinds (unit - units k)
+      (record {
+        apart = λ i j one other less at there. are.apart (suc i) (suc j) one other
+            (omega (arith, less)) at there;
+      }) (omega (arith, below, total, past)) in
       let differs : is_same_kind later.kind k ≡ false = are.apart 0 (suc later.there.place) k later.kind (omega arith) refl later.there.at in
       let sums = sum-cons (units k) (map units (before_kind later.kind kinds)) in
       let is = later.is in
@@ -147,7 +153,9 @@ units_are_used diagram attributes plan timing unit below =
     let same : ◌≡◌ {A = OperationKind} (kind_of diagram attributes timing found.x) kind = same_kind (kind_of diagram attributes timing found.x) kind parts.0 in
     let at_level : level_of timing found.x ≡ level_of timing level.x = eqb-true (level_of timing found.x) (level_of timing level.x) parts.1 in
     let turn : turn_of diagram attributes plan timing found.number found.x ≡ owner.place =
-    ap (λ (k : OperationKind). count_at diagram attributes timing (take found.number all) k (level_of timing found.x)) same ∙ ap (count_at diagram attributes timing (take found.number all) kind) at_level ∙ found.before in
+    ap (λ (k : OperationKind). count_at diagram attributes timing (take found.number all) k
+    (level_of timing found.x)) same
+    ∙ ap (count_at diagram attributes timing (take found.number all) kind) at_level ∙ found.before in
     let small : owner.place % plan.multipliers ≡ owner.place = mod-eq_of_lt (omega (arith, place)) in (
       found.number,
       found.x,

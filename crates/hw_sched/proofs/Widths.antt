@@ -28,7 +28,8 @@ parts_length sizes width true =
     ∙ length-map (numbers_from 0 (length sizes)) (share width (length sizes)) ∙ length_numbers 0 (length sizes)
 parts_length sizes width false = length-map sizes (min most_width)
 
-widths_by : (kind : Kind) (inputs outputs lists width : ℕ) (sources own : List ℕ) → HasPorts kind inputs outputs → (row_of kind).parameters → map (min most_width) (taken (row_of kind).signal.shape lists width sources) ≡ own
+widths_by : (kind : Kind) (inputs outputs lists width : ℕ) (sources own : List ℕ) → HasPorts kind inputs outputs
+    → (row_of kind).parameters → map (min most_width) (taken (row_of kind).signal.shape lists width sources) ≡ own
     → (outputs ≤ length own) × (0 < length own)
 widths_by (Demux sizes) inputs outputs lists width sources own ports has settled =
     let size : length own ≡ length sizes = ap (λ (list : List ℕ). length list) (sym settled) ∙ parts_length sizes (slice_index_or sources 0 0) (are_open sizes) in
@@ -47,8 +48,11 @@ module _ (diagram : Diagram) (checked : IsChecked diagram) where
   pub widths_at : (place : ℕ) (b : Block) → slice_get diagram.blocks place ≡ Some b → (b.outputs ≤ length (own place)) × (0 < length (own place))
   widths_at place b at =
       let readable = readable_at diagram checked.wired place b at in
-      let settled = subst (λ (o : Option Block). next_of o (width_at (widths_of diagram) place 1) (input_widths diagram (widths_of diagram) place) ≡ own place) at (checked.dimensions.blocks place b at).settled in
-      widths_by b.kind b.inputs b.outputs (list_length b.kind) (width_at (widths_of diagram) place 1) (input_widths diagram (widths_of diagram) place) (own place) readable.ports readable.parameters settled
+      let settled = subst (λ (o : Option Block). next_of o (width_at (widths_of diagram) place 1)
+      (input_widths diagram (widths_of diagram) place) ≡ own place) at
+      (checked.dimensions.blocks place b at).settled in
+      widths_by b.kind b.inputs b.outputs (list_length b.kind) (width_at (widths_of diagram) place 1)
+      (input_widths diagram (widths_of diagram) place) (own place) readable.ports readable.parameters settled
 
   -- the first width of a block
   pub first_there : (place : ℕ) → place < length diagram.blocks → 1 - 1 < length (own place)

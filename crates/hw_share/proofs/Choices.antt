@@ -57,7 +57,8 @@ module _ (tells : CounterIsTelling) (a b : Circuit) (frame : Frame) (slot : ℕ)
 
   counting : Grows a c [] (IsChoosing (λ other. other ≡ frame)) 0
   counting = grows-then a b c [] [] (IsChoosing (λ other. other ≡ frame)) (IsChoosing (λ other. other ≡ frame)) 0 0 (All-nil (IsNamed a b [])) (λ kind x. x) begun
-      (comb-grows b c (Const (pos left)) [] [] false width (IsChoosing (λ other. other ≡ frame)) grown word (refl, tt) (All-nil (λ read. (read < length b.nets) × MayReadNow b c [] (length b.nets) read)) tt)
+      (comb-grows b c (Const (pos left)) [] [] false width (IsChoosing (λ other. other ≡ frame)) grown word
+      (refl, tt) (All-nil (λ read. (read < length b.nets) × MayReadNow b c [] (length b.nets) read)) tt)
 
   module _ (d : Circuit) (number : ℕ) (last : number ≡ length c.nets) (more : d ≡ with_net c (record { signed = false; width = 1; kind = Comb Equal (counter ∷ literal ∷ []) })) where
     abbrev equal : Net
@@ -85,7 +86,9 @@ module _ (tells : CounterIsTelling) (a b : Circuit) (frame : Frame) (slot : ℕ)
         (λ n rows. ((x : ℕ) → x < n → rows literal x ≡ pos left) × ((x : ℕ) → x < n → rows number x ≡ truth (int_eq (rows counter x) (rows literal x))))
         (λ n rows. Tests n (span_of a.cycles frame) slot (rows number))
         (in-rows-first a b d (λ n rows. IsCounter n (span_of a.cycles frame) (rows counter)) behind (counter-shows a b frame counter begun.appends.extends found))
-        (in-rows-last a b d (λ n rows. ((x : ℕ) → x < n → rows literal x ≡ pos left) × ((x : ℕ) → x < n → rows number x ≡ truth (int_eq (rows counter x) (rows literal x)))) begun.appends.extends both-show)
+        (in-rows-last a b d (λ n rows. ((x : ℕ) → x < n → rows literal x ≡ pos left)
+        × ((x : ℕ) → x < n → rows number x ≡ truth (int_eq (rows counter x) (rows literal x))))
+        begun.appends.extends both-show)
         (λ n rows counts shows. tests-of n (span_of a.cycles frame) slot (rows counter) (rows literal) (rows number) inside
         (tells n (span_of a.cycles frame) (rows counter) (mul-lt 0 0 frame.period a.cycles some cycles) counts)
         (λ x h. shows.0 x h ∙ ap pos left_is) shows.1)
@@ -155,7 +158,10 @@ module _ (a b : Circuit) (test chosen other number : ℕ) (there : IsThere a tes
   chosen-in = in-word-later a b chosen one.there.net (put-extends a b choice grown) one.there.is
 
   choice-cut : InRows a b (λ n rows. (c : ℕ) → c < n → IsWrapped (if not (int_eq (rows test c) (pos 0)) then rows chosen c else rows other c) one.there.net.width one.there.net.signed (rows number c))
-  choice-cut = in-rows-one a b choice number (λ n rows. (c : ℕ) → c < n → IsWrapped (if not (int_eq (rows test c) (pos 0)) then rows chosen c else rows other c) one.there.net.width one.there.net.signed (rows number c)) last grown
+  choice-cut = in-rows-one a b choice number
+      (λ n rows. (c : ℕ) → c < n → IsWrapped
+      (if not (int_eq (rows test c) (pos 0)) then rows chosen c else rows other c) one.there.net.width
+      one.there.net.signed (rows number c)) last grown
       (λ n inputs rows shows. shows)
 
   pub choice-shows : InRows a b (λ n rows. Chooses n (rows test) (rows chosen) (rows other) (rows number))

@@ -41,7 +41,9 @@ pub no-tests : (before now : Circuit) → AreTests before now []
 no-tests before now = record { each = λ moment number at. absurd (none-some number at) }
 
 -- one that is known
-pub known-tested : (before now : Circuit) (tests : List (Moment × ℕ)) (frame : Frame) (slot number : ℕ) → test_of tests (record { frame = frame; slot = slot }) ≡ Some number → IsTested before now now tests tests frame slot number
+pub known-tested : (before now : Circuit) (tests : List (Moment × ℕ)) (frame : Frame) (slot number : ℕ)
+    → test_of tests (record { frame = frame; slot = slot }) ≡ Some number
+    → IsTested before now now tests tests frame slot number
 known-tested before now tests frame slot number is = record {
   test = λ are. are.each (record { frame = frame; slot = slot }) number is;
   tests = λ are. are;

@@ -83,14 +83,18 @@ module _ (before now : Circuit) (operations : List Operation) (ends : List (Opti
   left-alike : (k : ℕ) (other : Operation) → slice_get operations k ≡ Some other → other.unit ≡ one.unit → SameWord before before other.left one.left
   left-alike k other there same =
       elim (cases_eq k i) [
-        | inl e ↦ subst (λ (x : Operation). SameWord before before other.left x.left) (same_Some other one (sym there ∙ ap (slice_get operations) e ∙ at)) (word-itself before before other.left (extends-self before))
+        | inl e ↦ subst (λ (x : Operation). SameWord before before other.left x.left)
+            (same_Some other one (sym there ∙ ap (slice_get operations) e ∙ at))
+            (word-itself before before other.left (extends-self before))
         | inr far ↦ (can.apart k i other one far there at same).left
       ]
 
   right-alike : (k : ℕ) (other : Operation) → slice_get operations k ≡ Some other → other.unit ≡ one.unit → SameWord before before other.right one.right
   right-alike k other there same =
       elim (cases_eq k i) [
-        | inl e ↦ subst (λ (x : Operation). SameWord before before other.right x.right) (same_Some other one (sym there ∙ ap (slice_get operations) e ∙ at)) (word-itself before before other.right (extends-self before))
+        | inl e ↦ subst (λ (x : Operation). SameWord before before other.right x.right)
+            (same_Some other one (sym there ∙ ap (slice_get operations) e ∙ at))
+            (word-itself before before other.right (extends-self before))
         | inr far ↦ (can.apart k i other one far there at same).right
       ]
 
@@ -114,7 +118,10 @@ module _ (before now : Circuit) (operations : List Operation) (ends : List (Opti
         let extends : Extends now new = rw same (extends-self now) in
         record {
           extends = extends;
-          own = rw own (in-rows-all before new (λ n rows. Offers n (span_of before.cycles one.frame) one.slot (rows one.left) (rows one.right) (rows one.left) (rows one.right)) (λ n rows. record { left_is = λ c h takes. refl; right_is = λ c h takes. refl }));
+          own = rw own (in-rows-all before new
+              (λ n rows. Offers n (span_of before.cycles one.frame) one.slot (rows one.left) (rows one.right)
+              (rows one.left) (rows one.right))
+              (λ n rows. record { left_is = λ c h takes. refl; right_is = λ c h takes. refl }));
           earlier = λ k other less there units.
               let taken : IsSome (ends_at ends one.unit) = subst (λ (u : ℕ). IsSome (ends_at ends u)) units (inv.taken k other less there) in
               absurd (none-taken (ends_at ends one.unit) none taken);
@@ -157,7 +164,9 @@ module _ (before now : Circuit) (operations : List Operation) (ends : List (Opti
           (λ n rows. Selects n (span_of before.cycles one.frame) one.slot (rows one.left) (rows old.left) (rows end.left)
           × Selects n (span_of before.cycles one.frame) one.slot (rows one.right) (rows old.right) (rows end.right))
           (λ n rows. Offers n (span_of before.cycles other.frame) other.slot (rows other.left) (rows other.right) (rows end.left) (rows end.right))
-          (in-rows-first before now new (λ n rows. Offers n (span_of before.cycles other.frame) other.slot (rows other.left) (rows other.right) (rows old.left) (rows old.right)) further (inv.offered k other old less there known_too))
+          (in-rows-first before now new (λ n rows. Offers n (span_of before.cycles other.frame) other.slot
+          (rows other.left) (rows other.right) (rows old.left) (rows old.right)) further
+          (inv.offered k other old less there known_too))
           both-select
           (λ n rows offers selects. record {
             left_is = λ c h takes. selects.0.off c h (apart_at c takes) ∙ offers.left_is c h takes;
@@ -215,7 +224,8 @@ module _ (before now : Circuit) (operations : List Operation) (ends : List (Opti
     at-other : (unit : ℕ) → (unit ≡ one.unit → ⊥) → ends_at (set ends one.unit (Some end)) unit ≡ ends_at ends unit
     at-other unit far = get_or-set_other ends one.unit unit (Some end) None far
 
-    offered-of : (k : ℕ) (other : Operation) (own : Ends) → k < i + 1 → slice_get operations k ≡ Some other → ends_at (set ends one.unit (Some end)) other.unit ≡ Some own → AreOffered before new other own
+    offered-of : (k : ℕ) (other : Operation) (own : Ends) → k < i + 1 → slice_get operations k ≡ Some other
+        → ends_at (set ends one.unit (Some end)) other.unit ≡ Some own → AreOffered before new other own
     offered-of k other own less there known =
         elim (cases_eq other.unit one.unit) [
           | inl units ↦
@@ -233,7 +243,9 @@ module _ (before now : Circuit) (operations : List Operation) (ends : List (Opti
               (inv.offered k other own less_still there (sym (at-other other.unit far) ∙ known))
         ]
 
-    word-of : (from : Operation → ℕ) (to : Ends → ℕ) → ((k : ℕ) (other : Operation) → slice_get operations k ≡ Some other → other.unit ≡ one.unit → SameWord before before (from other) (from one)) → SameWord before new (from one) (to end)
+    word-of : (from : Operation → ℕ) (to : Ends → ℕ)
+        → ((k : ℕ) (other : Operation) → slice_get operations k ≡ Some other → other.unit ≡ one.unit
+        → SameWord before before (from other) (from one)) → SameWord before new (from one) (to end)
         → ((k : ℕ) (other : Operation) (own : Ends) → slice_get operations k ≡ Some other → ends_at ends other.unit ≡ Some own → SameWord before now (from other) (to own))
         → (k : ℕ) (other : Operation) (own : Ends) → slice_get operations k ≡ Some other → ends_at (set ends one.unit (Some end)) other.unit ≡ Some own → SameWord before new (from other) (to own)
     word-of from to alike here before_it k other own there known =
@@ -256,7 +268,9 @@ module _ (before now : Circuit) (operations : List Operation) (ends : List (Opti
               rw (at-other other.unit far) (inv.taken k other less_still there)
         ]
 
-    named-of : (unit : ℕ) (own : Ends) → ends_at (set ends one.unit (Some end)) unit ≡ Some own → IsNamed before new (operands_of operations) own.left × IsNamed before new (operands_of operations) own.right
+    named-of : (unit : ℕ) (own : Ends) → ends_at (set ends one.unit (Some end)) unit ≡ Some own
+        → IsNamed before new (operands_of operations) own.left
+        × IsNamed before new (operands_of operations) own.right
     named-of unit own known =
         elim (cases_eq unit one.unit) [
           | inl units ↦

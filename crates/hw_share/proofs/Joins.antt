@@ -46,7 +46,10 @@ module _ (before a b c d : Circuit) (old : Ends) (one : Operation) (test left ri
   cd : Extends c d
   cd = last.appends.extends
 
-  selects-by : (here there number : ℕ) → InRows before d (λ n rows. Chooses n (rows test) (rows here) (rows there) (rows number)) → InRows before d (λ n rows. Selects n (span_of before.cycles one.frame) one.slot (rows here) (rows there) (rows number))
+  selects-by : (here there number : ℕ) → InRows before d
+      (λ n rows. Chooses n (rows test) (rows here) (rows there) (rows number))
+      → InRows before d (λ n rows. Selects n (span_of before.cycles one.frame) one.slot (rows here) (rows there)
+      (rows number))
   selects-by here there number chooses = in-rows-both before d
       (λ n rows. Tests n (span_of before.cycles one.frame) one.slot (rows test))
       (λ n rows. Chooses n (rows test) (rows here) (rows there) (rows number))
@@ -67,7 +70,9 @@ module _ (before a b c d : Circuit) (old : Ends) (one : Operation) (test left ri
   grows-on : GrowsOn before a d (one.left ∷ one.right ∷ old.left ∷ old.right ∷ []) one.frame
   grows-on operations named framed names grown =
       grows-then before c d named (test ∷ one.right ∷ old.right ∷ []) part (IsChoosing (λ frame. ⊥)) 0 0
-      (all-three (IsNamed before c named) test one.right old.right (test-named c bc) (later c (extends-trans a b c ab bc) one.right (1, omega arith, refl)) (later c (extends-trans a b c ab bc) old.right (3, omega arith, refl))) wider second last
+      (all-three (IsNamed before c named) test one.right old.right (test-named c bc)
+      (later c (extends-trans a b c ab bc) one.right (1, omega arith, refl))
+      (later c (extends-trans a b c ab bc) old.right (3, omega arith, refl))) wider second last
     where
       part : NetKind → Type 0
       part = IsChoosing (IsFrameOf operations)
@@ -87,7 +92,9 @@ module _ (before a b c d : Circuit) (old : Ends) (one : Operation) (test left ri
 
       second : Grows before c named part 0
       second = grows-then before b c named (test ∷ one.left ∷ old.left ∷ []) part (IsChoosing (λ frame. ⊥)) 0 0
-          (all-three (IsNamed before b named) test one.left old.left (test-named b (extends-self b)) (later b ab one.left (0, omega arith, refl)) (later b ab old.left (2, omega arith, refl))) wider first more
+          (all-three (IsNamed before b named) test one.left old.left (test-named b (extends-self b))
+          (later b ab one.left (0, omega arith, refl)) (later b ab old.left (2, omega arith, refl))) wider first
+          more
 
   pub has-joined : HasJoined before a d old one (record { left = left; right = right })
   has-joined = record {
@@ -106,7 +113,8 @@ module _ (before a b c d : Circuit) (old : Ends) (one : Operation) (test left ri
       word-back x y z from number is p same = λ net there. same net (still-there x y from net p there)
 
 -- an operation joins ends that are known, or begins them
-pub joined-part : (before now new : Circuit) (known : Option Ends) (old : Ends) (one : Operation) (end : Ends) → known ≡ Some old → HasJoined before now new old one end → IsJoined before now new known one end
+pub joined-part : (before now new : Circuit) (known : Option Ends) (old : Ends) (one : Operation) (end : Ends)
+    → known ≡ Some old → HasJoined before now new old one end → IsJoined before now new known one end
 joined-part before now new known old one end is has = record {
   begun = λ none. absurd (none-some old (sym none ∙ is));
   more = λ other also. let same : old ≡ other = same_Some old other (sym is ∙ also) in subst (λ (x : Ends). HasJoined before now new x one end) same has;

@@ -1,5 +1,6 @@
 -- The multipliers behind the ends of their chains.
-use Rattle.std.proofs.Common.{◌≡◌, ℕ, zero, suc, ◌+◌, ◌<◌, ◌⊎◌, ◌||◌, inl, inr, List, [], ◌∷◌, ◌++◌, length, All, Option, None, Some, slice_get, Result, Ok, Err, IfOk, OnOk, ap, sym, ◌∙◌, subst, arith, refl, length-append}
+use Rattle.std.proofs.Common.{◌≡◌, ℕ, zero, suc, ◌+◌, ◌<◌, ◌⊎◌, ◌||◌, inl, inr, List, [], ◌∷◌, ◌++◌, length, All, Option, None, Some, slice_get, Result, Ok, Err, IfOk, OnOk, ap, sym, ◌∙◌, subst}
+use Rattle.std.proofs.Common.{arith, refl, length-append}
 use Rattle.std.proofs.lemmas.Bool.{cases_lt}
 use Rattle.std.proofs.lemmas.Option.{slice_get_within, none-some, same_Some}
 use Rattle.std.proofs.lemmas.List.Elements.{All-nil, All-cons}
@@ -60,7 +61,9 @@ module _ (a b : Circuit) (ends : Ends) (can : CanMultiply a ends) (number : ℕ)
   multiplier-grows = put-grows a b unit grown (ends.left ∷ ends.right ∷ []) IsMultiplying 0 (record {
     word = can.product;
     kind = holds;
-    there = all-two (λ read. read < length b.nets) ends.left ends.right (omega (arith, left-within, longer a b (put-extends a b unit grown))) (omega (arith, right-within, longer a b (put-extends a b unit grown)));
+    there = all-two (λ read. read < length b.nets) ends.left ends.right
+        (omega (arith, left-within, longer a b (put-extends a b unit grown)))
+        (omega (arith, right-within, longer a b (put-extends a b unit grown)));
     allowed = all-two (MayRead a b (ends.left ∷ ends.right ∷ [])) ends.left ends.right (inl (0, omega arith, refl)) (inl (1, omega arith, refl));
     now = all-two (MayReadNow a b (ends.left ∷ ends.right ∷ []) (length a.nets)) ends.left ends.right (inl (0, omega arith, refl)) (inl (1, omega arith, refl));
     counted = λ frame names. absurd (none-some frame names);
@@ -91,7 +94,9 @@ all-reads P (Some first ∷ ends) each =
     All-cons P first.left (first.right ∷ reads_of ends) own.0 (All-cons P first.right (reads_of ends) own.1 (all-reads P ends (λ unit one at. each (suc unit) one at)))
 
 -- the nets of a multiplier are among those that are read
-pub reads-named : (a b : Circuit) (ends : List (Option Ends)) (unit : ℕ) (own : Ends) → slice_get ends unit ≡ Some (Some own) → IsNamed a b (reads_of ends) own.left × IsNamed a b (reads_of ends) own.right
+pub reads-named : (a b : Circuit) (ends : List (Option Ends)) (unit : ℕ) (own : Ends)
+    → slice_get ends unit ≡ Some (Some own)
+    → IsNamed a b (reads_of ends) own.left × IsNamed a b (reads_of ends) own.right
 reads-named a b [] unit own at = absurd (none-some (Some own) at)
 reads-named a b (None ∷ ends) zero own at = absurd (none-some own (same_Some None (Some own) at))
 reads-named a b (None ∷ ends) (suc unit) own at = reads-named a b ends unit own at

@@ -34,8 +34,11 @@ module _ (a b : Circuit) (one : Net) (grown : b ≡ with_net a one) where
   }
 
 -- an operation on nets
-pub comb-grows : (a b : Circuit) (op : NetOp) (args named : List ℕ) (signed : Bool) (width : ℕ) (part : NetKind → Type 0) → b ≡ with_net a (record { signed = signed; width = width; kind = Comb op args })
-    → IsWord width signed → IsKind b.nets b.cycles (length b.inputs) width signed (Comb op args) → All (λ read. (read < length a.nets) × MayReadNow a b named (length a.nets) read) args → part (Comb op args)
+pub comb-grows : (a b : Circuit) (op : NetOp) (args named : List ℕ) (signed : Bool) (width : ℕ)
+    (part : NetKind → Type 0) → b ≡ with_net a (record { signed = signed; width = width; kind = Comb op args })
+    → IsWord width signed → IsKind b.nets b.cycles (length b.inputs) width signed (Comb op args)
+    → All (λ read. (read < length a.nets) × MayReadNow a b named (length a.nets) read) args
+    → part (Comb op args)
     → Grows a b named part 0
 comb-grows a b op args named signed width part grown word kind all own =
     put-grows a b (record { signed = signed; width = width; kind = Comb op args }) grown named part 0 (record {

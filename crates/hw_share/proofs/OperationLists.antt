@@ -13,12 +13,16 @@ behind-one x y xs c = (suc c.0, omega (arith, c.1), c.2)
 pub left-named : (operations : List Operation) (k : ℕ) (one : Operation) → slice_get operations k ≡ Some one → Contains (operands_of operations) one.left
 left-named [] k one at = absurd (none-some one at)
 left-named (first ∷ operations) zero one at = (0, omega arith, ap (λ (x : Operation). x.left) (same_Some first one at))
-left-named (first ∷ operations) (suc k) one at = behind-one one.left first.left (first.right ∷ operands_of operations) (behind-one one.left first.right (operands_of operations) (left-named operations k one at))
+left-named (first ∷ operations) (suc k) one at =
+    behind-one one.left first.left (first.right ∷ operands_of operations)
+    (behind-one one.left first.right (operands_of operations) (left-named operations k one at))
 
 pub right-named : (operations : List Operation) (k : ℕ) (one : Operation) → slice_get operations k ≡ Some one → Contains (operands_of operations) one.right
 right-named [] k one at = absurd (none-some one at)
 right-named (first ∷ operations) zero one at = (1, omega arith, ap (λ (x : Operation). x.right) (same_Some first one at))
-right-named (first ∷ operations) (suc k) one at = behind-one one.right first.left (first.right ∷ operands_of operations) (behind-one one.right first.right (operands_of operations) (right-named operations k one at))
+right-named (first ∷ operations) (suc k) one at =
+    behind-one one.right first.left (first.right ∷ operands_of operations)
+    (behind-one one.right first.right (operands_of operations) (right-named operations k one at))
 
 pub among : (operations : List Operation) (k : ℕ) (one : Operation) → slice_get operations k ≡ Some one → Contains operations one
 among operations k one at = (k, slice_get_within operations k one at, get_or_from_slice_get operations k one one at)

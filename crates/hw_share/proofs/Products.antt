@@ -27,15 +27,23 @@ within width false v has =
 
 pub product-in : (one other : ℕ) (signed also : Bool) (x y : ℤ) → IsWord one signed → IsWord other also → InWord one signed x → InWord other also y → InWord (one + other) (signed || also) (x *ℤ y)
 product-in one other true true x y p q a b =
-    let less : unsigned_abs x * unsigned_abs y < 2 ^ (one + other - 1) = below-power (unsigned_abs x) (unsigned_abs y) (one - 1) (other - 1) (one + other - 1) (within one true x a).at_most (within other true y b).at_most (omega (arith, p.0, q.0))
+    let less : unsigned_abs x * unsigned_abs y < 2 ^ (one + other - 1) =
+    below-power (unsigned_abs x) (unsigned_abs y) (one - 1) (other - 1) (one + other - 1)
+    (within one true x a).at_most (within other true y b).at_most (omega (arith, p.0, q.0))
     in signed-product x y (one + other) less
 product-in one other true false x y p q a b =
-    let less : unsigned_abs x * unsigned_abs y < 2 ^ (one + other - 1) = below-power-strict (unsigned_abs x) (unsigned_abs y) (one - 1) other (one + other - 1) (within one true x a).at_most ((within other false y b).below refl) (omega (arith, p.0))
+    let less : unsigned_abs x * unsigned_abs y < 2 ^ (one + other - 1) =
+    below-power-strict (unsigned_abs x) (unsigned_abs y) (one - 1) other (one + other - 1)
+    (within one true x a).at_most ((within other false y b).below refl) (omega (arith, p.0))
     in signed-product x y (one + other) less
 product-in one other false true x y p q a b =
-    let swapped : unsigned_abs y * unsigned_abs x < 2 ^ (one + other - 1) = below-power-strict (unsigned_abs y) (unsigned_abs x) (other - 1) one (one + other - 1) (within other true y b).at_most ((within one false x a).below refl) (omega (arith, q.0))
+    let swapped : unsigned_abs y * unsigned_abs x < 2 ^ (one + other - 1) =
+    below-power-strict (unsigned_abs y) (unsigned_abs x) (other - 1) one (one + other - 1)
+    (within other true y b).at_most ((within one false x a).below refl) (omega (arith, q.0))
     in let less : unsigned_abs x * unsigned_abs y < 2 ^ (one + other - 1) = omega (arith, mul_comm (unsigned_abs x) (unsigned_abs y), swapped)
     in signed-product x y (one + other) less
 product-in one other false false x y p q a b =
-    let less : unsigned_abs x * unsigned_abs y < 2 ^ (one + other) = below-power-strict (unsigned_abs x) (unsigned_abs y) one other (one + other) (within one false x a).at_most ((within other false y b).below refl) (omega arith)
+    let less : unsigned_abs x * unsigned_abs y < 2 ^ (one + other) =
+    below-power-strict (unsigned_abs x) (unsigned_abs y) one other (one + other) (within one false x a).at_most
+    ((within other false y b).below refl) (omega arith)
     in unsigned-product x y (one + other) ((within one false x a).sign refl) ((within other false y b).sign refl) less

@@ -22,7 +22,8 @@ results-begun a operations numbers = record {
   grown = grows-self a numbers (IsKeeping (IsFrameOf operations));
 }
 
-module _ (a b c : Circuit) (operations : List Operation) (numbers results : List ℕ) (i result : ℕ) (one : Operation) (can : CanKeep a operations numbers) (are : AreResults a b operations numbers results i)
+module _ (a b c : Circuit) (operations : List Operation) (numbers results : List ℕ) (i result : ℕ) (one : Operation)
+    (can : CanKeep a operations numbers) (are : AreResults a b operations numbers results i)
     (at : slice_get operations i ≡ Some one) (held : IsHeld b c (slice_index_or numbers one.unit 0) one.frame one.slot (pos 0) result)
     (grown : Grows b c (slice_index_or numbers one.unit 0 ∷ []) (IsKeeping (λ frame. frame ≡ one.frame)) 1) where
   first : Extends a b
@@ -36,16 +37,40 @@ module _ (a b c : Circuit) (operations : List Operation) (numbers results : List
     shows = in-rows-last a b c (λ n rows. IsReg n (span_of a.cycles one.frame) one.slot (pos 0) (rows (slice_index_or numbers one.unit 0)) (rows result)) first
         (subst (λ (x : ℕ). InRows b c (λ n rows. IsReg n (span_of x one.frame) one.slot (pos 0) (rows (slice_index_or numbers one.unit 0)) (rows result))) first.cycles held.shows);
     word = λ net is. held.word net (still-there a b (slice_index_or numbers one.unit 0) net first is);
-    new = record { frame = held.new.frame; slot = held.new.slot; first = held.new.first; from = held.new.from; net = held.new.net; is = held.new.is; holds = held.new.holds; new = omega (arith, held.new.new, longer a b first) };
+    new = record {
+      frame = held.new.frame;
+      slot = held.new.slot;
+      first = held.new.first;
+      from = held.new.from;
+      net =
+          held.new.net;
+      is = held.new.is;
+      holds =
+          held.new.holds;
+      new = omega (arith, held.new.new, longer a b first);
+    };
   }
 
-  old-one : (k : ℕ) (other : Operation) (number : ℕ) → slice_get operations k ≡ Some other → slice_get results k ≡ Some number → IsHeld a c (slice_index_or numbers other.unit 0) other.frame other.slot (pos 0) number
+  old-one : (k : ℕ) (other : Operation) (number : ℕ) → slice_get operations k ≡ Some other
+      → slice_get results k ≡ Some number
+      → IsHeld a c (slice_index_or numbers other.unit 0) other.frame other.slot (pos 0) number
   old-one k other number p q =
       let was : IsHeld a b (slice_index_or numbers other.unit 0) other.frame other.slot (pos 0) number = are.each k other number p q in
       record {
         shows = in-rows-first a b c (λ n rows. IsReg n (span_of a.cycles other.frame) other.slot (pos 0) (rows (slice_index_or numbers other.unit 0)) (rows number)) later was.shows;
         word = word-later a b c (slice_index_or numbers other.unit 0) number later was.word;
-        new = record { frame = was.new.frame; slot = was.new.slot; first = was.new.first; from = was.new.from; net = was.new.net; is = still-there b c number was.new.net later was.new.is; holds = was.new.holds; new = was.new.new };
+        new = record {
+          frame = was.new.frame;
+          slot = was.new.slot;
+          first = was.new.first;
+          from = was.new.from;
+          net =
+              was.new.net;
+          is = still-there b c number was.new.net later was.new.is;
+          holds =
+              was.new.holds;
+          new = was.new.new;
+        };
       }
 
   pub results-more : AreResults a c operations numbers (results ++ result ∷ []) (i + 1)

@@ -1,5 +1,6 @@
 -- What chains, multipliers and registers give together.
-use Rattle.std.proofs.Common.{◌≡◌, ℕ, ◌+◌, ◌*◌, ◌<◌, ◌≤◌, ◌||◌, inl, inr, true, List, length, All, Option, Some, None, Result, Ok, Err, IfOk, slice_get, slice_index_or, pos, ◌*ℤ◌, ap, sym, ◌∙◌, subst, arith, refl, true≢false}
+use Rattle.std.proofs.Common.{◌≡◌, ℕ, ◌+◌, ◌*◌, ◌<◌, ◌≤◌, ◌||◌, inl, inr, true, List, length, All, Option, Some, None, Result, Ok, Err, IfOk, slice_get, slice_index_or, pos, ◌*ℤ◌, ap, sym, ◌∙◌, subst}
+use Rattle.std.proofs.Common.{arith, refl, true≢false}
 use Rattle.std.proofs.lemmas.Bool.{cases_lt}
 use Rattle.std.proofs.lemmas.Option.{slice_get_within, get_or_from_slice_get, slice_get-get_or}
 use Rattle.std.proofs.Math.Nat.{mul-le-mul}
@@ -79,11 +80,14 @@ module _ (closed : RegisterIsClosed) (a b c d : Circuit) (operations : List Oper
     held : IsHeld c d (length b.nets + one.unit) one.frame one.slot (pos 0) result
     held = subst (λ (x : ℕ). IsHeld c d x one.frame one.slot (pos 0) result) number-is (kept.each k one result at there)
 
-    product-shows : InRows a d (λ n rows. Multiplies n (rows own.left) (rows own.right) (rows (length b.nets + one.unit)) × IsReg n (span_of a.cycles one.frame) one.slot (pos 0) (rows (length b.nets + one.unit)) (rows result))
+    product-shows : InRows a d (λ n rows. Multiplies n (rows own.left) (rows own.right)
+        (rows (length b.nets + one.unit)) × IsReg n (span_of a.cycles one.frame) one.slot (pos 0)
+        (rows (length b.nets + one.unit)) (rows result))
     product-shows = in-rows-both a d
         (λ n rows. Multiplies n (rows own.left) (rows own.right) (rows (length b.nets + one.unit)))
         (λ n rows. IsReg n (span_of a.cycles one.frame) one.slot (pos 0) (rows (length b.nets + one.unit)) (rows result))
-        (λ n rows. Multiplies n (rows own.left) (rows own.right) (rows (length b.nets + one.unit)) × IsReg n (span_of a.cycles one.frame) one.slot (pos 0) (rows (length b.nets + one.unit)) (rows result))
+        (λ n rows. Multiplies n (rows own.left) (rows own.right) (rows (length b.nets + one.unit))
+        × IsReg n (span_of a.cycles one.frame) one.slot (pos 0) (rows (length b.nets + one.unit)) (rows result))
         (in-rows-first a c d (λ n rows. Multiplies n (rows own.left) (rows own.right) (rows (length b.nets + one.unit))) cd
         (in-rows-last a b c (λ n rows. Multiplies n (rows own.left) (rows own.right) (rows (length b.nets + one.unit))) ab unit-is.shows))
         (in-rows-last a c d (λ n rows. IsReg n (span_of a.cycles one.frame) one.slot (pos 0) (rows (length b.nets + one.unit)) (rows result)) (extends-trans a b c ab bc)
@@ -97,12 +101,15 @@ module _ (closed : RegisterIsClosed) (a b c d : Circuit) (operations : List Oper
       multiplies = record { net = unit-is.unit.net; is = still-there c d (length b.nets + one.unit) unit-is.unit.net cd unit-is.unit.is; multiplies = unit-is.unit.multiplies };
       serves = in-rows-both a d
           (λ n rows. Offers n (span_of a.cycles one.frame) one.slot (rows one.left) (rows one.right) (rows own.left) (rows own.right))
-          (λ n rows. Multiplies n (rows own.left) (rows own.right) (rows (length b.nets + one.unit)) × IsReg n (span_of a.cycles one.frame) one.slot (pos 0) (rows (length b.nets + one.unit)) (rows result))
+          (λ n rows. Multiplies n (rows own.left) (rows own.right) (rows (length b.nets + one.unit))
+          × IsReg n (span_of a.cycles one.frame) one.slot (pos 0) (rows (length b.nets + one.unit))
+          (rows result))
           (λ n rows. Serves n (span_of a.cycles one.frame) one.slot (rows one.left) (rows one.right) (rows own.left) (rows own.right) (rows result))
           (in-rows-first a b d (λ n rows. Offers n (span_of a.cycles one.frame) one.slot (rows one.left) (rows one.right) (rows own.left) (rows own.right)) (extends-trans b c d bc cd)
           (are.offered k one own (slice_get_within operations k one at) at known))
           product-shows
-          (λ n rows offers shows. serves-of closed n (span_of a.cycles one.frame) one.slot (rows one.left) (rows one.right) (rows own.left) (rows own.right) (rows (length b.nets + one.unit)) (rows result)
+          (λ n rows offers shows. serves-of closed n (span_of a.cycles one.frame) one.slot (rows one.left)
+          (rows one.right) (rows own.left) (rows own.right) (rows (length b.nets + one.unit)) (rows result)
           (can.each k one at).inside offers shows.0 shows.1);
       word = λ net other p q.
           let left : HasWord b.nets own.left net.width net.signed = are.left_word k one own at known net p in
@@ -219,7 +226,8 @@ module _ (closed : RegisterIsClosed) (a b c d : Circuit) (operations : List Oper
   }
 
 -- the registers can be put behind the multipliers
-pub can-keep : (a b c : Circuit) (operations : List Operation) (ends : List (Option Ends)) (numbers : List ℕ) → a.cycles ≤ 1024 → CanShare a operations → AreEnds a b operations ends (length operations)
+pub can-keep : (a b c : Circuit) (operations : List Operation) (ends : List (Option Ends)) (numbers : List ℕ)
+    → a.cycles ≤ 1024 → CanShare a operations → AreEnds a b operations ends (length operations)
     → AreMultipliers b c ends numbers (length ends) → CanKeep c operations numbers
 can-keep a b c operations ends numbers high can are made = record {
   inside = λ k one at. omega (arith, unit-below operations k one at, are.size, made.size);
@@ -244,7 +252,9 @@ can-keep a b c operations ends numbers high can are made = record {
     mul-le : {p q m n : ℕ} → p ≤ m → q ≤ n → p * q ≤ m * n
     mul-le {p} {q} {m} {n} h k = mul-le-mul h k
 
-pub shared-part : {E : Type 0} (result : Result (List ℕ) E) → RegisterIsClosed → (a b c d : Circuit) (operations : List Operation) (ends : List (Option Ends)) (numbers : List ℕ) → CanShare a operations
+pub shared-part : {E : Type 0} (result : Result (List ℕ) E) → RegisterIsClosed
+    → (a b c d : Circuit) (operations : List Operation) (ends : List (Option Ends)) (numbers : List ℕ)
+    → CanShare a operations
     → AreEnds a b operations ends (length operations) → AreMultipliers b c ends numbers (length ends) → IfOk result (λ results. AreResults c d operations numbers results (length operations))
     → IfOk result (AreShared a d operations)
 shared-part (Ok results) closed a b c d operations ends numbers can are made kept = all-shared closed a b c d operations ends numbers results can are made kept

@@ -1,5 +1,6 @@
 -- A design from what is worked out of each of its blocks, over attributes that are written out.
-use Rattle.std.proofs.Common.{◌≡◌, ℕ, zero, suc, ◌*◌, ◌<◌, Bool, true, false, true≢false, ◌&&◌, ◌==◌, nat_lt, List, [], ◌∷◌, Option, None, Some, is_some, slice_get, slice_index_or, ap, sym, subst, refl, ◌∙◌}
+use Rattle.std.proofs.Common.{◌≡◌, ℕ, zero, suc, ◌*◌, ◌<◌, Bool, true, false, true≢false, ◌&&◌, ◌==◌, nat_lt, List, [], ◌∷◌, Option, None, Some, is_some, slice_get, slice_index_or, ap, sym, subst}
+use Rattle.std.proofs.Common.{refl, ◌∙◌}
 use Rattle.std.proofs.lemmas.Bool.{and_parts, eqb-true, ltb-true}
 use Rattle.std.proofs.lemmas.Option.{none-some, same_Some}
 use Rattle.fx_type.specs.declared.kind.FxType.{FxType}
@@ -33,7 +34,8 @@ abbrev is_early : Timing → ℕ → Option ℕ → Bool
 is_early timing block None = true
 is_early timing block (Some period) = nat_lt (timing.ready block) (period * timing.cycles)
 
-period_passes : (test : ℕ → Option ℕ → Bool) (periods : List (Option ℕ)) → each_passes test periods ≡ true → (block period : ℕ) → slice_index_or periods block None ≡ Some period → test block (Some period) ≡ true
+period_passes : (test : ℕ → Option ℕ → Bool) (periods : List (Option ℕ)) → each_passes test periods ≡ true
+    → (block period : ℕ) → slice_index_or periods block None ≡ Some period → test block (Some period) ≡ true
 period_passes test [] is block period e = absurd (none-some period e)
 period_passes test (first ∷ periods) is zero period e = subst (λ (own : Option ℕ). test 0 own ≡ true) e (and_parts (test 0 first) (each_passes (λ k. test (suc k)) periods) is).0
 period_passes test (first ∷ periods) is (suc block) period e =
@@ -66,11 +68,15 @@ module _ (diagram : Diagram) (columns : Columns) (timing : Timing) where
 
     at_once : (k : ℕ) (b : Block) → slice_get diagram.blocks k ≡ Some b → (row_of b.kind).timing.inherits ≡ Inherited.Base → (timing.latency k ≡ 0) × (timing.ready k ≡ 0)
     at_once k b at base =
-        let zeros = and_parts (timing.latency k == 0) (timing.ready k == 0) (so (is_base (row_of b.kind).timing.inherits) ((timing.latency k == 0) && (timing.ready k == 0)) (ap is_base base) (parts k b at).1) in
+        let zeros = and_parts (timing.latency k == 0) (timing.ready k == 0)
+        (so (is_base (row_of b.kind).timing.inherits) ((timing.latency k == 0) && (timing.ready k == 0))
+        (ap is_base base) (parts k b at).1) in
         (eqb-true (timing.latency k) 0 zeros.0, eqb-true (timing.ready k) 0 zeros.1)
 
     pub timed_by : each_passes (is_early timing) columns.periods ≡ true → AllKeep diagram (λ block b. (target : Target) → InTime diagram attributes timing block b target)
-        → ((block element slot : ℕ) → timing.slot block element ≡ Some slot → slot < timing.ready block) → ((block element : ℕ) → attributes.period_at block ≡ None → timing.slot block element ≡ None) → IsTimed diagram attributes timing
+        → ((block element slot : ℕ) → timing.slot block element ≡ Some slot → slot < timing.ready block)
+        → ((block element : ℕ) → attributes.period_at block ≡ None → timing.slot block element ≡ None)
+        → IsTimed diagram attributes timing
     timed_by early arrive slots still = record {
       ready = λ block period is. ltb-true (timing.ready block) (period * timing.cycles) (period_passes (is_early timing) columns.periods early block period is);
       edges = λ block b target from source e showing feeds is. arrive block b e target from source feeds is;
@@ -116,7 +122,9 @@ module _ (stimulus : Stimulus) (n : ℕ) where
   abbrev takes_given : Attributes → ℕ → Block → Bool
   takes_given attributes k b = is_given (root_input (row_of b.kind).place.role) (attributes.type_at k 1)
 
-  pub given_by : (diagram : Diagram) (attributes : Attributes) → ((number element t : ℕ) → stimulus number 0 t ≡ stimulus number element t) → each_passes (takes_given attributes) diagram.blocks ≡ true → IsStimulus diagram attributes stimulus n
+  pub given_by : (diagram : Diagram) (attributes : Attributes)
+      → ((number element t : ℕ) → stimulus number 0 t ≡ stimulus number element t)
+      → each_passes (takes_given attributes) diagram.blocks ≡ true → IsStimulus diagram attributes stimulus n
   given_by diagram attributes alike is = record {
     in_range = λ block b number element t e own inside below hit.
         subst (InRange (attributes.type_at block 1)) (alike number element t)
@@ -134,12 +142,16 @@ module _ (stimulus : Stimulus) (n : ℕ) where
     shown_at None period is number e = absurd (none-some number e)
     shown_at (Some own) None is number e = absurd (true≢false (sym is))
     shown_at (Some own) (Some period) is number e =
-        subst (λ (k : ℕ). Shows clocks n cycles (Some period) 0 0 (stimulus k 0) (waves.input k 0)) (same_Some own number e) (tried_shows clocks n cycles period 0 0 (stimulus own 0) (waves.input own 0) is)
+        subst (λ (k : ℕ). Shows clocks n cycles (Some period) 0 0 (stimulus k 0) (waves.input k 0))
+        (same_Some own number e)
+        (tried_shows clocks n cycles period 0 0 (stimulus own 0) (waves.input own 0) is)
 
     abbrev takes_shown : Attributes → ℕ → Block → Bool
     takes_shown attributes k b = is_shown (root_input (row_of b.kind).place.role) (attributes.period_at k)
 
-    driven_by : (diagram : Diagram) (attributes : Attributes) → ((number element t : ℕ) → stimulus number 0 t ≡ stimulus number element t) → ((number element c : ℕ) → waves.input number element c ≡ waves.input number 0 c)
+    driven_by : (diagram : Diagram) (attributes : Attributes)
+        → ((number element t : ℕ) → stimulus number 0 t ≡ stimulus number element t)
+        → ((number element c : ℕ) → waves.input number element c ≡ waves.input number 0 c)
         → each_passes (takes_shown attributes) diagram.blocks ≡ true → AreDriven diagram attributes stimulus n cycles clocks waves
     driven_by diagram attributes alike same is = record {
       shows = λ block b number element t c e own inside early soon seen.
@@ -153,8 +165,12 @@ module _ (diagram : Diagram) (columns : Columns) (tried : IsTried diagram column
   known : attributes_of diagram ≡ attributes_in diagram columns
   known = attributes_tried diagram columns tried
 
-  pub designed : IsOrdered diagram order → IsTimed diagram (attributes_in diagram columns) timing → AllKeep diagram (AreRight diagram (attributes_in diagram columns) stimulus n table) → AllKeep diagram (DoStay diagram (attributes_in diagram columns) stimulus n table)
-      → AreBuilt diagram (attributes_in diagram columns) timing clocks waves → ((number element t : ℕ) → stimulus number 0 t ≡ stimulus number element t) → ((number element c : ℕ) → waves.input number element c ≡ waves.input number 0 c)
+  pub designed : IsOrdered diagram order → IsTimed diagram (attributes_in diagram columns) timing
+      → AllKeep diagram (AreRight diagram (attributes_in diagram columns) stimulus n table)
+      → AllKeep diagram (DoStay diagram (attributes_in diagram columns) stimulus n table)
+      → AreBuilt diagram (attributes_in diagram columns) timing clocks waves
+      → ((number element t : ℕ) → stimulus number 0 t ≡ stimulus number element t)
+      → ((number element c : ℕ) → waves.input number element c ≡ waves.input number 0 c)
       → each_passes (takes_shown stimulus n timing.cycles clocks waves (attributes_in diagram columns)) diagram.blocks ≡ true → IsDesign diagram order stimulus timing clocks n table waves
   designed ordered timed right stay built alike same shown =
       let attributes : Attributes = attributes_in diagram columns in
@@ -163,7 +179,8 @@ module _ (diagram : Diagram) (columns : Columns) (tried : IsTried diagram column
         timed = subst (λ (a : Attributes). IsTimed diagram a timing) (sym known) timed;
         solves = subst (λ (a : Attributes). Solves diagram a stimulus n table) (sym known) (solved_by diagram attributes stimulus n table right stay);
         built = subst (λ (a : Attributes). AreBuilt diagram a timing clocks waves) (sym known) built;
-        driven = subst (λ (a : Attributes). AreDriven diagram a stimulus n timing.cycles clocks waves) (sym known) (driven_by stimulus n timing.cycles clocks waves diagram attributes alike same shown);
+        driven = subst (λ (a : Attributes). AreDriven diagram a stimulus n timing.cycles clocks waves) (sym known)
+            (driven_by stimulus n timing.cycles clocks waves diagram attributes alike same shown);
       }
 
   -- it is none where its waves aren't built so

@@ -27,7 +27,9 @@ module _ (diagram : Diagram) (attributes : Attributes) (timing : Timing) where
       subst (λ (x : ℕ). IsInTime diagram attributes timing block b (Port port) from x) source_is (subst (λ (x : ℕ). IsInTime diagram attributes timing block b (Port port) x period) same time)
 
   -- an edge without registers in one period is in time, where its source is early enough
-  pub plain_in_time : (block : ℕ) (b : Block) (port : ℕ) (edge : Edge) (period : ℕ) → driver_of diagram block port ≡ Some edge → attributes.period_at edge.from ≡ Some period → attributes.period_at block ≡ Some period
+  pub plain_in_time : (block : ℕ) (b : Block) (port : ℕ) (edge : Edge) (period : ℕ)
+      → driver_of diagram block port ≡ Some edge → attributes.period_at edge.from ≡ Some period
+      → attributes.period_at block ≡ Some period
       → lag_into diagram attributes block b (Port port) period ≡ None → latency_after timing period edge.from ≤ timing.latency block → timing.ready edge.from ≤ timing.ready block
       → ((element slot : ℕ) → timing.slot block element ≡ Some slot → timing.ready edge.from ≤ slot) → InTime block b (Port port)
   plain_in_time block b port edge period driver from_is own_is plain late ready slot =

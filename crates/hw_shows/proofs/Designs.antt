@@ -22,7 +22,8 @@ module _ (storing : StoringGivesOne) (at_most : OperationGivesAtMostOne) (regist
     abbrev rank : (diagram : Diagram) (order : List ℕ) → IsOrdered diagram order → ℕ → ℕ
     rank diagram order ordered = order_rank storing sums products unions params diagram order ordered
 
-    setting : {diagram : Diagram} {order : List ℕ} {stimulus : Stimulus} {timing : Timing} {clocks n : ℕ} {table : Table} {waves : Waves} (design : IsDesign diagram order stimulus timing clocks n table waves)
+    setting : {diagram : Diagram} {order : List ℕ} {stimulus : Stimulus} {timing : Timing} {clocks n : ℕ}
+        {table : Table} {waves : Waves} (design : IsDesign diagram order stimulus timing clocks n table waves)
         → Setting diagram (attributes_of diagram) (rank diagram order design.ordered) stimulus timing clocks n table waves
     setting {diagram = diagram} {order = order} design = record {
       storing = storing;

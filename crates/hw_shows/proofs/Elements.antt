@@ -29,7 +29,9 @@ use Rattle.hw_shows.specs.Waves.{Waves, IsCarriedOut, IsServed, IsJoined, operat
 use Rattle.hw_lines.proofs.Hits.{hit-number}
 use Rattle.hw_shows.proofs.Inputs.{Setting, AreOffered}
 
-module _ {diagram : Diagram} {attributes : Attributes} {rank : ℕ → ℕ} {stimulus : Stimulus} {timing : Timing} {clocks n : ℕ} {table : Table} {waves : Waves} (s : Setting diagram attributes rank stimulus timing clocks n table waves)
+module _ {diagram : Diagram} {attributes : Attributes} {rank : ℕ → ℕ} {stimulus : Stimulus} {timing : Timing}
+    {clocks n : ℕ} {table : Table} {waves : Waves}
+    (s : Setting diagram attributes rank stimulus timing clocks n table waves)
     (block : ℕ) (b : Block) (block_is : slice_get diagram.blocks block ≡ Some b) (showing : 1 ≤ shown_ports b.kind b.outputs) (k : ℕ) (within : k ≤ clocks) (port element : ℕ)
   where
     -- hit t of the block is to be seen at clock c
@@ -61,7 +63,9 @@ module _ {diagram : Diagram} {attributes : Attributes} {rank : ℕ → ℕ} {sti
           → ((a : ℕ) → a < k → IsSeenAt timing.cycles p (timing.latency block) slot t a → left a ≡ x) → ((a : ℕ) → a < k → IsSeenAt timing.cycles p (timing.latency block) slot t a → right a ≡ y)
           → waves.product block element c ≡ x *ℤ y
       product_is left right x y p t c own product due early at_left at_right =
-          let seen : IsSeenAt timing.cycles p (timing.latency block) (timing.ready block) t c = subst (λ (o : Option ℕ). IsSeen timing.cycles o (timing.latency block) (timing.ready block) t c) own due in
+          let seen : IsSeenAt timing.cycles p (timing.latency block) (timing.ready block) t c =
+          subst (λ (o : Option ℕ). IsSeen timing.cycles o (timing.latency block) (timing.ready block) t c) own
+          due in
           let from : (t + timing.latency block) * timing.cycles + timing.ready block ≤ c = seen.from in
           let until : c < (t + timing.latency block + p) * timing.cycles = seen.until in
           let i : ℕ = t / p in
@@ -80,7 +84,9 @@ module _ {diagram : Diagram} {attributes : Attributes} {rank : ℕ → ℕ} {sti
           go (Some p) e = f p e
 
       offered_at_slot : (now : AreOffered s block b block_is showing k slot) (input : ℕ) → 1 ≤ input → input ≤ b.inputs → IsRead diagram attributes block input element
-          → (p t : ℕ) → attributes.period_at block ≡ Some p → t < n → (a : ℕ) → a < k → IsSeenAt timing.cycles p (timing.latency block) slot t a → waves.offered block input element a ≡ value_into diagram attributes table block input element t
+          → (p t : ℕ) → attributes.period_at block ≡ Some p → t < n → (a : ℕ) → a < k
+          → IsSeenAt timing.cycles p (timing.latency block) slot t a
+          → waves.offered block input element a ≡ value_into diagram attributes table block input element t
       offered_at_slot now input from to reads p t own below a early seen =
           (now input element from to reads).at t a below early (subst (λ (o : Option ℕ). IsSeen timing.cycles o (timing.latency block) slot t a) (sym own) seen)
 
@@ -93,19 +99,35 @@ module _ {diagram : Diagram} {attributes : Attributes} {rank : ℕ → ℕ} {sti
               → ElementEquation diagram attributes stimulus table b block element t (waves.entry block port element c)
           multiplied is two type other e f made =
               let product : waves.product block element c ≡ value_into diagram attributes table block 1 element t *ℤ value_into diagram attributes table block 2 element t =
-              with_period (λ p own. product_is (waves.offered block 1 element) (waves.offered block 2 element) (value_into diagram attributes table block 1 element t) (value_into diagram attributes table block 2 element t)
+              with_period (λ p own. product_is (waves.offered block 1 element) (waves.offered block 2 element)
+              (value_into diagram attributes table block 1 element t)
+              (value_into diagram attributes table block 2 element t)
               p t c own (made.product p own) due early
               (offered_at_slot now 1 (omega arith) (omega arith) (reads 1 (omega arith) (omega arith)) p t own below)
               (offered_at_slot now 2 (omega arith) (omega arith) (reads 2 (omega arith) (omega arith)) p t own below)) in
-              let one : value_of (values_into diagram attributes table block b.inputs element t) 0 ≡ value_into diagram attributes table block 1 element t = ap (λ (m : ℕ). value_of (values_into diagram attributes table block m element t) 0) two in
-              let more : value_of (values_into diagram attributes table block b.inputs element t) 1 ≡ value_into diagram attributes table block 2 element t = ap (λ (m : ℕ). value_of (values_into diagram attributes table block m element t) 1) two in
-              let factors : waves.product block element c ≡ value_of (values_into diagram attributes table block b.inputs element t) 0 *ℤ value_of (values_into diagram attributes table block b.inputs element t) 1 = product ∙ sym (ap₂ (λ (x y : ℤ). x *ℤ y) one more) in (
+              let one : value_of (values_into diagram attributes table block b.inputs element t) 0
+              ≡ value_into diagram attributes table block 1 element t =
+              ap (λ (m : ℕ). value_of (values_into diagram attributes table block m element t) 0) two in
+              let more : value_of (values_into diagram attributes table block b.inputs element t) 1
+              ≡ value_into diagram attributes table block 2 element t =
+              ap (λ (m : ℕ). value_of (values_into diagram attributes table block m element t) 1) two in
+              let factors : waves.product block element c
+              ≡ value_of (values_into diagram attributes table block b.inputs element t) 0 *ℤ value_of
+              (values_into diagram attributes table block b.inputs element t) 1 =
+              product ∙ sym (ap₂ (λ (x y : ℤ). x *ℤ y) one more) in (
                 OpProduct,
                 subst (λ (kind : Kind). IsOpOf kind element (attributes.param_at block) (type_into diagram attributes block 2) OpProduct) (sym is) refl,
-                (made.full, rw (← e, ← f) made.is_full, subst (λ (v : ℤ). Converts v made.full (attributes.type_at block 1) b.rounding b.saturate (waves.entry block port element c)) factors (made.converts c (omega arith))),
+                (
+                  made.full,
+                  rw (← e, ← f) made.is_full,
+                  subst (λ (v : ℤ). Converts v made.full (attributes.type_at block 1) b.rounding b.saturate
+                      (waves.entry block port element c)) factors (made.converts c (omega arith)),
+                ),
               )
 
-          pub scaled : (value : List Decimal) (spec : _) → b.kind ≡ Gain value spec → b.inputs ≡ 1 → (coefficient : ℤ) → StoresEntry value element (attributes.param_at block) coefficient → (type : FxType)
+          pub scaled : (value : List Decimal) (spec : _) → b.kind ≡ Gain value spec → b.inputs ≡ 1
+              → (coefficient : ℤ) → StoresEntry value element (attributes.param_at block) coefficient
+              → (type : FxType)
               → (type ≡ type_of (types_into diagram attributes block b.inputs) 0)
               → IsServed diagram attributes timing clocks waves block b port element slot (waves.offered block 1 element) (steady coefficient) type (attributes.param_at block)
               → ElementEquation diagram attributes stimulus table b block element t (waves.entry block port element c)
@@ -115,18 +137,36 @@ module _ {diagram : Diagram} {attributes : Attributes} {rank : ℕ → ℕ} {sti
               p t c own (made.product p own) due early
               (offered_at_slot now 1 (omega arith) (omega arith) (reads 1 (omega arith) (omega arith)) p t own below)
               (λ a soon seen. refl)) in
-              let one : value_of (values_into diagram attributes table block b.inputs element t) 0 ≡ value_into diagram attributes table block 1 element t = ap (λ (m : ℕ). value_of (values_into diagram attributes table block m element t) 0) single in
-              let factors : waves.product block element c ≡ value_of (values_into diagram attributes table block b.inputs element t) 0 *ℤ coefficient = product ∙ sym (ap (λ (x : ℤ). x *ℤ coefficient) one) in (
+              let one : value_of (values_into diagram attributes table block b.inputs element t) 0
+              ≡ value_into diagram attributes table block 1 element t =
+              ap (λ (m : ℕ). value_of (values_into diagram attributes table block m element t) 0) single in
+              let factors : waves.product block element c
+              ≡ value_of (values_into diagram attributes table block b.inputs element t) 0 *ℤ coefficient =
+              product ∙ sym (ap (λ (x : ℤ). x *ℤ coefficient) one) in (
                 OpGain coefficient (attributes.param_at block),
-                subst (λ (kind : Kind). IsOpOf kind element (attributes.param_at block) (type_into diagram attributes block 2) (OpGain coefficient (attributes.param_at block))) (sym is) (coefficient, stored, refl),
-                (made.full, rw (← e) made.is_full, subst (λ (v : ℤ). Converts v made.full (attributes.type_at block 1) b.rounding b.saturate (waves.entry block port element c)) factors (made.converts c (omega arith))),
+                subst (λ (kind : Kind). IsOpOf kind element (attributes.param_at block)
+                    (type_into diagram attributes block 2) (OpGain coefficient (attributes.param_at block)))
+                    (sym is) (coefficient, stored, refl),
+                (
+                  made.full,
+                  rw (← e) made.is_full,
+                  subst (λ (v : ℤ). Converts v made.full (attributes.type_at block 1) b.rounding b.saturate
+                      (waves.entry block port element c)) factors (made.converts c (omega arith)),
+                ),
               )
 
     -- ---- signals
     pub joined : (t c : ℕ) → t < n → c < k → IsDue t c → AreOffered s block b block_is showing k (timing.ready block) → IsJoined diagram attributes timing clocks waves block b port element
         → MuxEquation diagram attributes stimulus table b block element t (waves.entry block port element c)
-    joined t c below early seen now made =
-        (made.signal, made.place, made.part, made.same.at c (omega arith) ∙ (now (suc made.signal) made.place (omega arith) (omega (arith, signal_is)) (below_repeated (width_into diagram attributes block (suc made.signal)) made.place (inr inside))).at t c below early seen)
+    joined t c below early seen now made = (
+      made.signal,
+      made.place,
+      made.part,
+      made.same.at c (omega arith)
+          ∙ (now (suc made.signal) made.place (omega arith) (omega (arith, signal_is))
+          (below_repeated (width_into diagram attributes block (suc made.signal)) made.place (inr inside))).at
+          t c below early seen,
+    )
       where
         signal_is : made.signal < b.inputs
         signal_is = subst (λ (m : ℕ). made.signal < m) (length_mapped (width_into diagram attributes block) 1 b.inputs) made.part.signal_is
@@ -136,12 +176,17 @@ module _ {diagram : Diagram} {attributes : Attributes} {rank : ℕ → ℕ} {sti
             let e : 1 + made.signal ≡ suc made.signal = omega arith in
             subst (λ (m : ℕ). made.place < m) (get_number (width_into diagram attributes block) 1 b.inputs made.signal signal_is ∙ ap (width_into diagram attributes block) e) made.part.within
 
-    pub parted : (t c : ℕ) → t < n → c < k → IsDue t c → AreOffered s block b block_is showing k (timing.ready block) → 1 ≤ b.inputs → 1 ≤ port → port ≤ b.outputs → element < attributes.width_at block port
+    pub parted : (t c : ℕ) → t < n → c < k → IsDue t c
+        → AreOffered s block b block_is showing k (timing.ready block) → 1 ≤ b.inputs → 1 ≤ port → port ≤ b.outputs
+        → element < attributes.width_at block port
         → width_into diagram attributes block 1 ≡ sum (map (attributes.width_at block) (numbers_from 1 b.outputs))
         → waves.entry block port element c ≡ waves.offered block 1 (sum (map (attributes.width_at block) (numbers_from 1 (port - 1))) + element) c
         → DemuxEquation diagram attributes stimulus table block port element t (waves.entry block port element c)
     parted t c below early seen now some from to inside width same =
-        same ∙ (now 1 (sum (map (attributes.width_at block) (numbers_from 1 (port - 1))) + element) (omega arith) some (below_repeated (width_into diagram attributes block 1) (sum (map (attributes.width_at block) (numbers_from 1 (port - 1))) + element) (inr there))).at t c below early seen
+        same ∙ (now 1 (sum (map (attributes.width_at block) (numbers_from 1 (port - 1))) + element)
+        (omega arith) some (below_repeated (width_into diagram attributes block 1)
+        (sum (map (attributes.width_at block) (numbers_from 1 (port - 1))) + element) (inr there))).at t c
+        below early seen
       where
         there : sum (map (attributes.width_at block) (numbers_from 1 (port - 1))) + element < width_into diagram attributes block 1
         there =
@@ -152,5 +197,9 @@ module _ {diagram : Diagram} {attributes : Attributes} {rank : ℕ → ℕ} {sti
         → waves.entry block port element c ≡ stored_truth (list_any (λ place. int_lt (pos 0) (waves.offered block 1 place c)) (numbers_from 0 (width_into diagram attributes block 1)))
         → EnableEquation diagram attributes stimulus table block t (waves.entry block port element c)
     tested t c below early seen now some same =
-        same ∙ ap stored_truth (any_same (λ place. int_lt (pos 0) (waves.offered block 1 place c)) (λ place. int_lt (pos 0) (value_into diagram attributes table block 1 place t)) 0 (width_into diagram attributes block 1)
-        (λ place from to. ap (λ (x : ℤ). int_lt (pos 0) x) ((now 1 place (omega arith) some (below_repeated (width_into diagram attributes block 1) place (inr (omega (arith, to))))).at t c below early seen)))
+        same ∙ ap stored_truth (any_same (λ place. int_lt (pos 0) (waves.offered block 1 place c))
+        (λ place. int_lt (pos 0) (value_into diagram attributes table block 1 place t)) 0
+        (width_into diagram attributes block 1)
+        (λ place from to. ap (λ (x : ℤ). int_lt (pos 0) x)
+        ((now 1 place (omega arith) some (below_repeated (width_into diagram attributes block 1) place
+        (inr (omega (arith, to))))).at t c below early seen)))

@@ -47,9 +47,13 @@ abbrev Arrives : ℕ → Block → Target → Type 0
 Arrives block b target = InTime diagram attributes timing block b target
 
 -- from the block before it, of the same latency
-into : (block : ℕ) (b : Block) (from : ℕ) → driver_of diagram block 1 ≡ Some (edge_of from block 1) → attributes.period_at from ≡ Some 1 → attributes.period_at block ≡ Some 1 → lag_into diagram attributes block b (Port 1) 1 ≡ None
+into : (block : ℕ) (b : Block) (from : ℕ) → driver_of diagram block 1 ≡ Some (edge_of from block 1)
+    → attributes.period_at from ≡ Some 1 → attributes.period_at block ≡ Some 1
+    → lag_into diagram attributes block b (Port 1) 1 ≡ None
     → latency_after timing 1 from ≤ timing.latency block → Arrives block b (Port 1)
-into block b from driver from_is own_is plain late = plain_in_time diagram attributes timing block b 1 (edge_of from block 1) 1 driver from_is own_is plain late (omega arith) (λ element slot h. absurd (none-some slot h))
+into block b from driver from_is own_is plain late =
+    plain_in_time diagram attributes timing block b 1 (edge_of from block 1) 1 driver from_is own_is plain late
+    (omega arith) (λ element slot h. absurd (none-some slot h))
 
 -- the Delay from the Gain, two base samples late, and from its control
 at_delay : (target : Target) → Arrives 4 delay target
@@ -131,7 +135,8 @@ offered = each_by Offered blocks
     (λ element. tried_line 6 (record { cycles = 1; own = record { period = 1; latency = 2 }; reader = record { period = 1; latency = 2 } }) (state 1) (state 1) refl (omega arith))))
 
 -- the control reaches the Delay two base samples late
-enabled : (block : ℕ) (b : Block) → slice_get blocks block ≡ Some b → (from : ℕ) → Feeds diagram block b Enable from → IsOfferedAt diagram attributes timing 6 (waves state) block b Enable from (pos 0) (behind state from) enable
+enabled : (block : ℕ) (b : Block) → slice_get blocks block ≡ Some b → (from : ℕ) → Feeds diagram block b Enable from
+    → IsOfferedAt diagram attributes timing 6 (waves state) block b Enable from (pos 0) (behind state from) enable
 enabled = each_by (λ (k : ℕ) (x : Block). (from : ℕ) → Feeds diagram k x Enable from → IsOfferedAt diagram attributes timing 6 (waves state) k x Enable from (pos 0) (behind state from) enable) blocks
     (λ from feeds. absurd (none-some from feeds.0))
     (λ from feeds. absurd (none-some from feeds.0))
@@ -147,8 +152,22 @@ made = each_by (AreMade diagram attributes timing 6 (waves state)) blocks
     (λ port element. record { at = λ c below. refl })
     (λ port element. record { at = λ c below. refl })
     (λ port element. tried_same 6 control (λ c. stored_truth (int_lt (pos 0) (control c) || false)) refl)
-    (λ port element. record { op = OpGain (pos 1) int8; is = (pos 1, stores_small 1 (lit< tt) (lit< tt), refl); gives = λ t c below seen. (int16, int16_full, kept 6 (λ k. stage 0 k *ℤ pos 1) (stage 0) refl c below) })
-    (λ port element. (stores_small 9 (lit< tt) (lit< tt), (record { at = λ c below. refl }, λ period is. subst (λ (p : ℕ). IsEnabledSeries 6 (span_at timing p 4) 1 false (pos 9) enable (stage 2) state) (same_Some 1 period is) states)))
+    (λ port element. record {
+      op = OpGain (pos 1) int8;
+      is =
+          (pos 1, stores_small 1 (lit< tt) (lit< tt), refl);
+      gives =
+          λ t c below seen. (int16, int16_full, kept 6 (λ k. stage 0 k *ℤ pos 1) (stage 0) refl c below);
+    })
+    (λ port element. (
+      stores_small 9 (lit< tt) (lit< tt),
+      (
+        record { at = λ c below. refl },
+        λ period is. subst
+            (λ (p : ℕ). IsEnabledSeries 6 (span_at timing p 4) 1 false (pos 9) enable (stage 2) state)
+            (same_Some 1 period is) states,
+      ),
+    ))
     (λ port element. record { op = Pass; is = refl; gives = λ t c below seen. refl })
 
 piped : AllKeep diagram (ArePiped diagram attributes timing 6 (waves state))

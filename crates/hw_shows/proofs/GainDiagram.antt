@@ -1,4 +1,5 @@
--- The diagram of a Gain before a Delay in an enabled subsystem: an input and a control, the test of the control, a Gain of 1, a Delay of one sample with held states, and an output. It keeps the rules.
+-- The diagram of a Gain before a Delay in an enabled subsystem: an input and a control, the test of the control, a
+-- Gain of 1, a Delay of one sample with held states, and an output. It keeps the rules.
 use Rattle.std.proofs.Common.{false, true, List, [], ◌∷◌, Some, All, refl}
 use Rattle.std.proofs.Math.Dec.{lit<, lit≤}
 use Rattle.fx_type.specs.declared.kind.FxType.TheVariants.{Logical}
@@ -51,7 +52,13 @@ delay_readable = record { ports = (refl, refl); parameters = ((lit≤ tt, lit≤
 
 readable : All IsReadable blocks
 readable =
-    all_of IsReadable blocks (input_readable 1 1 (lit< tt) (lit≤ tt) (lit≤ tt) (lit< tt), (input_readable 2 1 (lit< tt) (lit≤ tt) (lit≤ tt) (lit< tt), (test_readable, (gain_readable, (delay_readable, (output_readable, tt))))))
+    all_of IsReadable blocks (
+      input_readable 1 1 (lit< tt) (lit≤ tt) (lit≤ tt) (lit< tt),
+      (
+        input_readable 2 1 (lit< tt) (lit≤ tt) (lit≤ tt) (lit< tt),
+        (test_readable, (gain_readable, (delay_readable, (output_readable, tt)))),
+      ),
+    )
 
 pub tried : IsTried diagram columns
 tried = record { widths = refl; types = refl; periods = refl; few = refl; edges = refl; ordered = refl; blocks = refl }

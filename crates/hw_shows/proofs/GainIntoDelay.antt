@@ -1,4 +1,5 @@
--- A Gain of 1 with two pipeline registers before a Delay of one sample in an enabled subsystem with held states, worked out by hand: one clock a base sample, the input 5, 6, 7, the control 1, 0, 1, the initial value 9.
+-- A Gain of 1 with two pipeline registers before a Delay of one sample in an enabled subsystem with held states,
+-- worked out by hand: one clock a base sample, the input 5, 6, 7, the control 1, 0, 1, the initial value 9.
 use Rattle.std.proofs.Common.{◌≡◌, ℕ, zero, suc, ◌<◌, ℤ, pos, false, [], ◌∷◌, Some, refl, arith}
 use Rattle.std.proofs.lemmas.Int.{ints}
 use Rattle.hw_net.specs.Registers.{Wave, Span, IsReg, IsEnReg}

@@ -24,7 +24,9 @@ seen_hits : (cycles : ℕ) (period : Option ℕ) (latency ready t c : ℕ) → I
 seen_hits cycles None latency ready t c seen = seen
 seen_hits cycles (Some p) latency ready t c seen = seen.is_hit
 
-module _ {diagram : Diagram} {attributes : Attributes} {rank : ℕ → ℕ} {stimulus : Stimulus} {timing : Timing} {clocks n : ℕ} {table : Table} {waves : Waves} (s : Setting diagram attributes rank stimulus timing clocks n table waves) where
+module _ {diagram : Diagram} {attributes : Attributes} {rank : ℕ → ℕ} {stimulus : Stimulus} {timing : Timing}
+    {clocks n : ℕ} {table : Table} {waves : Waves}
+    (s : Setting diagram attributes rank stimulus timing clocks n table waves) where
   -- ---- one element at one more clock
   module _ (k : ℕ) (within : suc k ≤ clocks) (block : ℕ) (all : (other : ℕ) → BlockShows s k other) (lower : (driver : ℕ) → rank driver < rank block → BlockShows s (suc k) driver)
       (b : Block) (port element : ℕ) (shown : IsShown diagram attributes block b port element)
@@ -38,11 +40,15 @@ module _ {diagram : Diagram} {attributes : Attributes} {rank : ℕ → ℕ} {sti
             let asked = MatchOption-at_some ⊥ (λ (x : Block). KindEquation diagram attributes stimulus table x.kind x block port element t (table block port element t)) b shown.block_is
             (s.solves.at_hits block b port element t shown below (seen_hits timing.cycles (attributes.period_at block) (timing.latency block) (timing.ready block) t c due)) in
             let readable = is_readable diagram attributes s.checked.wired block b shown.block_is in
-            let given = by_kind s k within block all lower b port element shown t c below early due b.kind refl readable.ports (s.checked.widths block b shown.block_is) shown.element_below shown.port_to readable.parameters
+            let given = by_kind s k within block all lower b port element shown t c below early due b.kind refl
+            readable.ports
+            (s.checked.widths block b shown.block_is) shown.element_below shown.port_to readable.parameters
             (λ now. all_offered s block b shown.block_is some_port (suc k) (timing.ready block) within now lower (early_ready s block b shown.block_is some_port now))
             (λ now slot e. all_offered s block b shown.block_is some_port (suc k) slot within now lower (early_slot s block b shown.block_is some_port element slot e))
             (s.built.blocks block b port element shown) in
-            kind_one s.storing s.at_most diagram attributes rank s.checked stimulus table block b shown.block_is (s.checked.types block b 1 shown.block_is (omega arith) some_port) t (waves.entry block port element c) (table block port element t)
+            kind_one s.storing s.at_most diagram attributes rank s.checked stimulus table block b shown.block_is
+            (s.checked.types block b 1 shown.block_is (omega arith) some_port) t
+            (waves.entry block port element c) (table block port element t)
             b.kind port element given asked;
       }
 
@@ -62,9 +68,13 @@ module _ {diagram : Diagram} {attributes : Attributes} {rank : ℕ → ℕ} {sti
               → (j : ℕ) → j < count → RegShows clocks (span_at timing p block) (p * timing.cycles - 1) (pos 0) (waves.stage block port element j) (waves.stage block port element (suc j))
           register count series j below =
               let some : timing.ready block < p * timing.cycles = ready p refl in
-              s.registers clocks (span_at timing p block) (p * timing.cycles - 1) (pos 0) (waves.stage block port element j) (waves.stage block port element (suc j)) (omega arith) (series.takes j below)
+              s.registers clocks (span_at timing p block) (p * timing.cycles - 1) (pos 0)
+              (waves.stage block port element j) (waves.stage block port element (suc j)) (omega arith)
+              (series.takes j below)
 
-          go : (count : ℕ) → AreSame clocks (waves.after block port element) (waves.stage block port element count) → IsSeries clocks (span_at timing p block) count (pos 0) (waves.entry block port element) (waves.stage block port element)
+          go : (count : ℕ) → AreSame clocks (waves.after block port element) (waves.stage block port element count)
+              → IsSeries clocks (span_at timing p block) count (pos 0) (waves.entry block port element)
+              (waves.stage block port element)
               → Shows (suc k) n timing.cycles (Some p) (timing.latency block + count * p) (ready_behind count (timing.ready block)) (table block port element) (waves.after block port element)
           go zero same series = record {
             at = λ t c below early seen.
@@ -72,7 +82,8 @@ module _ {diagram : Diagram} {attributes : Attributes} {rank : ℕ → ℕ} {sti
                 same.at c (omega arith) ∙ series.begins.at c (omega arith) ∙ now.at t c below early (subst (λ (l : ℕ). IsSeen timing.cycles (Some p) l (timing.ready block) t c) none seen);
           }
           go (suc j) same series =
-              let shows = stage_shows clocks k n timing.cycles p (timing.latency block) (timing.ready block) (table block port element) (suc j) (pos 0) (waves.stage block port element) within (ready p refl)
+              let shows = stage_shows clocks k n timing.cycles p (timing.latency block) (timing.ready block)
+              (table block port element) (suc j) (pos 0) (waves.stage block port element) within (ready p refl)
               (first (suc j) series) (register (suc j) series) j (omega arith) in
               record { at = λ t c below early seen. same.at c (omega arith) ∙ shows.at t c below early seen }
 
@@ -83,12 +94,15 @@ module _ {diagram : Diagram} {attributes : Attributes} {rank : ℕ → ℕ} {sti
       }
 
   -- ---- a register of a pipeline
-  pub staged : (k : ℕ) → suc k ≤ clocks → (block : ℕ) → ((other : ℕ) → BlockShows s k other) → (b : Block) (port element : ℕ) → IsShown diagram attributes block b port element → (p j : ℕ) → attributes.period_at block ≡ Some p → j < timing.stages block
+  pub staged : (k : ℕ) → suc k ≤ clocks → (block : ℕ) → ((other : ℕ) → BlockShows s k other)
+      → (b : Block) (port element : ℕ) → IsShown diagram attributes block b port element → (p j : ℕ)
+      → attributes.period_at block ≡ Some p → j < timing.stages block
       → Shows (suc k) n timing.cycles (Some p) (timing.latency block + suc j * p) 0 (table block port element) (waves.stage block port element (suc j))
   staged k within block all b port element shown p j is below = go (s.built.pipelines block b port element shown)
     where
       entry : Shows k n timing.cycles (Some p) (timing.latency block) (timing.ready block) (table block port element) (waves.entry block port element)
-      entry = subst (λ (o : Option ℕ). Shows k n timing.cycles o (timing.latency block) (timing.ready block) (table block port element) (waves.entry block port element)) is (all block b port element shown).entry
+      entry = subst (λ (o : Option ℕ). Shows k n timing.cycles o (timing.latency block) (timing.ready block)
+          (table block port element) (waves.entry block port element)) is (all block b port element shown).entry
 
       go : IsPiped diagram attributes timing clocks waves (attributes.period_at block) block port element
           → Shows (suc k) n timing.cycles (Some p) (timing.latency block + suc j * p) 0 (table block port element) (waves.stage block port element (suc j))
@@ -97,7 +111,9 @@ module _ {diagram : Diagram} {attributes : Attributes} {rank : ℕ → ℕ} {sti
           from_series : IsSeries clocks (span_at timing p block) (timing.stages block) (pos 0) (waves.entry block port element) (waves.stage block port element)
               → Shows (suc k) n timing.cycles (Some p) (timing.latency block + suc j * p) 0 (table block port element) (waves.stage block port element (suc j))
           from_series series =
-              stage_shows clocks k n timing.cycles p (timing.latency block) (timing.ready block) (table block port element) (timing.stages block) (pos 0) (waves.stage block port element) within (s.timed.ready block p is)
+              stage_shows clocks k n timing.cycles p (timing.latency block) (timing.ready block)
+              (table block port element) (timing.stages block) (pos 0) (waves.stage block port element) within
+              (s.timed.ready block p is)
               (record { at = λ t c less early seen. series.begins.at c (omega arith) ∙ entry.at t c less early seen })
               (λ i l. let some : timing.ready block < p * timing.cycles = s.timed.ready block p is in
               s.registers clocks (span_at timing p block) (p * timing.cycles - 1) (pos 0) (waves.stage block port element i) (waves.stage block port element (suc i)) (omega arith) (series.takes i l))

@@ -47,7 +47,9 @@ no_lag Reading.Before delay enable slower p e = absurd (true≢false (sym e))
 no_lag Reading.BeforeIfSlower delay enable true p e = absurd (true≢false (sym e))
 no_lag Reading.BeforeIfSlower delay enable false p e = refl
 
-module _ {diagram : Diagram} {attributes : Attributes} {rank : ℕ → ℕ} {stimulus : Stimulus} {timing : Timing} {clocks n : ℕ} {table : Table} {waves : Waves} (s : Setting diagram attributes rank stimulus timing clocks n table waves) where
+module _ {diagram : Diagram} {attributes : Attributes} {rank : ℕ → ℕ} {stimulus : Stimulus} {timing : Timing}
+    {clocks n : ℕ} {table : Table} {waves : Waves}
+    (s : Setting diagram attributes rank stimulus timing clocks n table waves) where
   -- at the first clocks a block shows its entries
   abbrev pub BlockShows : ℕ → ℕ → Type 0
   BlockShows k block = (b : Block) (port element : ℕ) → IsShown diagram attributes block b port element → AreShown attributes timing k n table waves block port element
@@ -93,7 +95,9 @@ module _ {diagram : Diagram} {attributes : Attributes} {rank : ℕ → ℕ} {sti
       pub source : (c : Block) × IsShown diagram attributes edge.from c edge.from_port place
       source = source_shown diagram attributes s.checked.wired block port edge place e there
 
-      pub line : IsOffered clocks timing edge.from (attributes.period_at edge.from) block (attributes.period_at block) (lag_into diagram attributes block b (Port port)) (waves.first block element) (waves.after edge.from edge.from_port place) (waves.offered block port element)
+      pub line : IsOffered clocks timing edge.from (attributes.period_at edge.from) block
+          (attributes.period_at block) (lag_into diagram attributes block b (Port port)) (waves.first block element)
+          (waves.after edge.from edge.from_port place) (waves.offered block port element)
       line = s.built.lines block b port element edge block_is showing from to e there
 
       -- in the reader's frame
@@ -107,12 +111,20 @@ module _ {diagram : Diagram} {attributes : Attributes} {rank : ℕ → ℕ} {sti
           record { at = λ t c below soon seen. result.at t c below soon seen ∙ sym (source_value t) }
 
       -- at the last clock of it
-      pub offered_at_end : (k q : ℕ) → k ≤ clocks → BlockShows k edge.from → ((p : ℕ) → attributes.period_at edge.from ≡ Some p → lag_into diagram attributes block b (Port port) p ≡ None) → attributes.period_at block ≡ Some q → 0 < q
+      pub offered_at_end : (k q : ℕ) → k ≤ clocks → BlockShows k edge.from
+          → ((p : ℕ) → attributes.period_at edge.from ≡ Some p
+          → lag_into diagram attributes block b (Port port) p ≡ None) → attributes.period_at block ≡ Some q
+          → 0 < q
           → (t : ℕ) → t < n → t % q ≡ 0 → (t + timing.latency block + q) * timing.cycles - 1 < k
           → waves.offered block port element ((t + timing.latency block + q) * timing.cycles - 1) ≡ value_into diagram attributes table block port element t
       offered_at_end k q within shows lag own some t below hit early =
-          let line_q = subst (λ (o : Option ℕ). IsOffered clocks timing edge.from (attributes.period_at edge.from) block o (lag_into diagram attributes block b (Port port)) (waves.first block element) (waves.after edge.from edge.from_port place) (waves.offered block port element)) own line in
-          let plain_q = subst (λ (o : Option ℕ). IsPlainOffer timing edge.from block (attributes.period_at edge.from) o (lag_into diagram attributes block b (Port port))) own (plain_offer (Port port) edge.from (edge, from, to, e, refl) lag) in
+          let line_q = subst (λ (o : Option ℕ). IsOffered clocks timing edge.from
+          (attributes.period_at edge.from) block o (lag_into diagram attributes block b (Port port))
+          (waves.first block element) (waves.after edge.from edge.from_port place)
+          (waves.offered block port element)) own line in
+          let plain_q = subst (λ (o : Option ℕ). IsPlainOffer timing edge.from block
+          (attributes.period_at edge.from) o (lag_into diagram attributes block b (Port port))) own
+          (plain_offer (Port port) edge.from (edge, from, to, e, refl) lag) in
           offer_ends clocks k n timing edge.from block (lag_into diagram attributes block b (Port port)) (waves.first block element) (table edge.from edge.from_port place)
           (waves.after edge.from edge.from_port place) (waves.offered block port element) within (attributes.period_at edge.from) q line_q
           (shows source.0 edge.from_port place source.1).after (still_entry edge.from source.0 edge.from_port place source.1) plain_q some t below hit early
@@ -124,7 +136,8 @@ module _ {diagram : Diagram} {attributes : Attributes} {rank : ℕ → ℕ} {sti
         → Shows k n timing.cycles (attributes.period_at block) (timing.latency block) x (value_into diagram attributes table block port element) (waves.offered block port element)
 
     pub all_offered : (k x : ℕ) → k ≤ clocks → reads_now diagram attributes block b.kind ≡ true → ((driver : ℕ) → rank driver < rank block → BlockShows k driver)
-        → ((port : ℕ) (edge : Edge) (p : ℕ) → 1 ≤ port → port ≤ b.inputs → driver_of diagram block port ≡ Some edge → attributes.period_at edge.from ≡ Some p → timing.ready edge.from ≤ x) → AreOffered k x
+        → ((port : ℕ) (edge : Edge) (p : ℕ) → 1 ≤ port → port ≤ b.inputs → driver_of diagram block port ≡ Some edge
+        → attributes.period_at edge.from ≡ Some p → timing.ready edge.from ≤ x) → AreOffered k x
     all_offered k x within now lower early port element from to reads =
         let d = driver_there port from to in
         offered_now port element d.0 d.1 reads from to k x within (lower d.0.from (s.checked.drivers block b port d.0 block_is now d.1))
@@ -132,11 +145,15 @@ module _ {diagram : Diagram} {attributes : Attributes} {rank : ℕ → ℕ} {sti
         (λ p e. early port d.0 p from to d.1 e)
 
     -- by when the block itself is ready
-    pub early_ready : reads_now diagram attributes block b.kind ≡ true → (port : ℕ) (edge : Edge) (p : ℕ) → 1 ≤ port → port ≤ b.inputs → driver_of diagram block port ≡ Some edge → attributes.period_at edge.from ≡ Some p → timing.ready edge.from ≤ timing.ready block
+    pub early_ready : reads_now diagram attributes block b.kind ≡ true → (port : ℕ) (edge : Edge) (p : ℕ) → 1 ≤ port
+        → port ≤ b.inputs → driver_of diagram block port ≡ Some edge → attributes.period_at edge.from ≡ Some p
+        → timing.ready edge.from ≤ timing.ready block
     early_ready now port edge p from to e is = (in_time (Port port) edge.from p (edge, from, to, e, refl) is).ready now
 
     -- by the slot of a shared operation
-    pub early_slot : (element slot : ℕ) → timing.slot block element ≡ Some slot → (port : ℕ) (edge : Edge) (p : ℕ) → 1 ≤ port → port ≤ b.inputs → driver_of diagram block port ≡ Some edge → attributes.period_at edge.from ≡ Some p → timing.ready edge.from ≤ slot
+    pub early_slot : (element slot : ℕ) → timing.slot block element ≡ Some slot → (port : ℕ) (edge : Edge) (p : ℕ)
+        → 1 ≤ port → port ≤ b.inputs → driver_of diagram block port ≡ Some edge
+        → attributes.period_at edge.from ≡ Some p → timing.ready edge.from ≤ slot
     early_slot element slot at port edge p from to e is = (in_time (Port port) edge.from p (edge, from, to, e, refl) is).slot element slot at
 
     -- ---- the control
@@ -144,7 +161,9 @@ module _ {diagram : Diagram} {attributes : Attributes} {rank : ℕ → ℕ} {sti
       pub control_source : (c : Block) × IsShown diagram attributes control c 1 0
       control_source = control_shown diagram attributes s.checked.wired s.checked.widths block b control block_is is
 
-      enable_line : IsOffered clocks timing control (attributes.period_at control) block (attributes.period_at block) (lag_into diagram attributes block b Enable) (pos 0) (waves.after control 1 0) (waves.enable block)
+      enable_line : IsOffered clocks timing control (attributes.period_at control) block
+          (attributes.period_at block) (lag_into diagram attributes block b Enable) (pos 0)
+          (waves.after control 1 0) (waves.enable block)
       enable_line = s.built.enables block b control block_is (is, asks)
 
       pub enabled_now : (k : ℕ) → k ≤ clocks → BlockShows k control → asks_now b.kind ≡ true
@@ -159,8 +178,12 @@ module _ {diagram : Diagram} {attributes : Attributes} {rank : ℕ → ℕ} {sti
           → (t : ℕ) → t < n → t % q ≡ 0 → (t + timing.latency block + q) * timing.cycles - 1 < k
           → waves.enable block ((t + timing.latency block + q) * timing.cycles - 1) ≡ table control 1 0 t
       enabled_at_end k q within shows own some t below hit early =
-          let line_q = subst (λ (o : Option ℕ). IsOffered clocks timing control (attributes.period_at control) block o (lag_into diagram attributes block b Enable) (pos 0) (waves.after control 1 0) (waves.enable block)) own enable_line in
-          let plain_q = subst (λ (o : Option ℕ). IsPlainOffer timing control block (attributes.period_at control) o (lag_into diagram attributes block b Enable)) own (plain_offer Enable control (is, asks) (λ p e. refl)) in
+          let line_q = subst (λ (o : Option ℕ). IsOffered clocks timing control
+          (attributes.period_at control) block o (lag_into diagram attributes block b Enable) (pos 0)
+          (waves.after control 1 0) (waves.enable block)) own enable_line in
+          let plain_q = subst (λ (o : Option ℕ). IsPlainOffer timing control block (attributes.period_at control) o
+          (lag_into diagram attributes block b Enable)) own
+          (plain_offer Enable control (is, asks) (λ p e. refl)) in
           offer_ends clocks k n timing control block (lag_into diagram attributes block b Enable) (pos 0) (table control 1 0) (waves.after control 1 0) (waves.enable block) within
           (attributes.period_at control) q line_q
           (shows control_source.0 1 0 control_source.1).after (still_entry control control_source.0 1 0 control_source.1) plain_q some t below hit early

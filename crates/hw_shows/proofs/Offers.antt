@@ -29,7 +29,9 @@ pub record IsPlainOffer (timing : Timing) (from block : ℕ) (source own : Optio
   pub ready : (p : ℕ) → source ≡ Some p → timing.ready from < p * timing.cycles
 
 module _ (clocks k n : ℕ) (timing : Timing) (from block : ℕ) (lag : ℕ → Option ℕ) (first : ℤ) (entry : ℕ → ℤ) (wave line : Wave) (within : k ≤ clocks) where
-  still_offered : (t c : ℕ) → t < n → c < k → AreSame clocks line wave → Shows k n timing.cycles None (timing.latency from) (ready_after timing from) entry wave → IsStill n None entry → line c ≡ entry t
+  still_offered : (t c : ℕ) → t < n → c < k → AreSame clocks line wave
+      → Shows k n timing.cycles None (timing.latency from) (ready_after timing from) entry wave
+      → IsStill n None entry → line c ≡ entry t
   still_offered t c below early same shows still = same.at c (omega arith) ∙ shows.at 0 c (omega arith) early refl ∙ sym (still refl t below)
 
   line_is : (p q : ℕ) (o : Option ℕ) → o ≡ None → IsLineInto clocks timing from p block q o first wave line

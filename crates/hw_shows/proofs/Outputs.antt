@@ -13,8 +13,13 @@ use Rattle.hw_shows.specs.Series.{IsChosen}
 use Rattle.hw_shows.proofs.Hits.{hits_after}
 use Rattle.hw_shows.proofs.States.{IsTruth}
 
-module _ (diagram : Diagram) (attributes : Attributes) (stimulus : Stimulus) (table : Table) (block control q t element : ℕ) (initial : List Decimal) (some : 0 < q) (hit : t % q ≡ 0) (truth : IsTruth (table control 1 0 t))
-    (clocks c : ℕ) (early : c < clocks) (enable offered other entry : Wave) (enables : enable c ≡ table control 1 0 t) (now : offered c ≡ value_into diagram attributes table block 1 element t) (chosen : IsChosen clocks enable offered other entry)
+module _ (diagram : Diagram) (attributes : Attributes) (stimulus : Stimulus) (table : Table)
+    (block control q t element : ℕ) (initial : List Decimal) (some : 0 < q) (hit : t % q ≡ 0)
+    (truth : IsTruth (table control 1 0 t))
+    (clocks c : ℕ) (early : c < clocks) (enable offered other entry : Wave)
+    (enables : enable c ≡ table control 1 0 t)
+    (now : offered c ≡ value_into diagram attributes table block 1 element t)
+    (chosen : IsChosen clocks enable offered other entry)
   where
     one_is_on : pos 1 ≢ pos 0
     one_is_on e = absurd (omega (arith, ints, e))
@@ -57,6 +62,10 @@ module _ (diagram : Diagram) (attributes : Attributes) (stimulus : Stimulus) (ta
     reset_out stored = go truth
       where
         go : IsTruth (table control 1 0 t) → MatchBool (test t) (entry c ≡ value_into diagram attributes table block 1 element t) (StoresEntry initial element (attributes.type_at block 1) (entry c))
-        go (IsTruth.IsOn e) = subst (λ (b : Bool). MatchBool b (entry c ≡ value_into diagram attributes table block 1 element t) (StoresEntry initial element (attributes.type_at block 1) (entry c))) (sym (is_on e)) (passes e)
-        go (IsTruth.IsOff e) = subst (λ (b : Bool). MatchBool b (entry c ≡ value_into diagram attributes table block 1 element t) (StoresEntry initial element (attributes.type_at block 1) (entry c))) (sym (is_off e))
+        go (IsTruth.IsOn e) = subst (λ (b : Bool). MatchBool b
+            (entry c ≡ value_into diagram attributes table block 1 element t)
+            (StoresEntry initial element (attributes.type_at block 1) (entry c))) (sym (is_on e)) (passes e)
+        go (IsTruth.IsOff e) = subst (λ (b : Bool). MatchBool b
+            (entry c ≡ value_into diagram attributes table block 1 element t)
+            (StoresEntry initial element (attributes.type_at block 1) (entry c))) (sym (is_off e))
             (subst (λ (v : ℤ). StoresEntry initial element (attributes.type_at block 1) v) (sym (rests e)) stored)

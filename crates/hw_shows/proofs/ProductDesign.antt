@@ -53,7 +53,16 @@ into_product (suc (suc (suc port))) from source feeds is = absurd (omega (arith,
 into_transition : Arrives 3 transition (Port 1)
 into_transition =
     port_in_time diagram attributes timing 3 transition 1 (edge_of 2 3 1) 2 refl refl
-    (record { own = 4; period = refl; same = λ h. absurd (true≢false h); edge = record { divides = refl; behind = omega arith }; ready = λ h. omega arith; slot = λ element slot h. absurd (none-some slot h) })
+    (record {
+      own = 4;
+      period = refl;
+      same = λ h. absurd (true≢false h);
+      edge =
+          record { divides = refl; behind = omega arith };
+      ready =
+          λ h. omega arith;
+      slot = λ element slot h. absurd (none-some slot h);
+    })
 
 into_output : Arrives 4 output (Port 1)
 into_output =

@@ -1,4 +1,5 @@
--- A Product of period 2 with a shared multiplier before a transition to period 4, worked out by hand: two clocks a base sample, slot 2, so that it is ready in its second base sample; operands 3, 4, 5, 6 and 2, 3, 4, 5.
+-- A Product of period 2 with a shared multiplier before a transition to period 4, worked out by hand: two clocks a
+-- base sample, slot 2, so that it is ready in its second base sample; operands 3, 4, 5, 6 and 2, 3, 4, 5.
 use Rattle.std.proofs.Common.{◌≡◌, ℕ, ℤ, pos, [], ◌∷◌, Some, refl, arith}
 use Rattle.std.proofs.lemmas.Int.{ints}
 use Rattle.hw_net.specs.Registers.{Wave}

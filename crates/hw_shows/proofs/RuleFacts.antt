@@ -83,7 +83,10 @@ two_numbers = record {
 pub three_numbers : AreNumbered (1 ∷ 2 ∷ 3 ∷ [])
 three_numbers = record {
   within = all_of (λ (number : ℕ). (1 ≤ number) × (number ≤ 3)) (1 ∷ 2 ∷ 3 ∷ []) ((lit≤ tt, lit≤ tt), ((lit≤ tt, lit≤ tt), ((lit≤ tt, lit≤ tt), tt)));
-  distinct = pairs_of (λ (number other : ℕ). number ≢ other) (1 ∷ 2 ∷ 3 ∷ []) ((λ e. absurd (omega (arith, e)), (λ e. absurd (omega (arith, e)), tt)), ((λ e. absurd (omega (arith, e)), tt), (tt, tt)));
+  distinct = pairs_of (λ (number other : ℕ). number ≢ other) (1 ∷ 2 ∷ 3 ∷ []) (
+    (λ e. absurd (omega (arith, e)), (λ e. absurd (omega (arith, e)), tt)),
+    ((λ e. absurd (omega (arith, e)), tt), (tt, tt)),
+  );
 }
 
 -- ---- each rule, over widths, types and periods that are written out
@@ -93,7 +96,9 @@ dimensions_kept diagram widths are blocks bounded = record {
   bounded = subst (λ (w : Widths). IsBounded diagram w) (sym are) bounded;
 }
 
-pub types_kept : (diagram : Diagram) (types : Types) → types_of diagram ≡ types → AllKeep diagram (IsNotWide diagram types) → AllKeep diagram (HasTypes diagram types) → AllKeep diagram (HasAgreeing diagram types)
+pub types_kept : (diagram : Diagram) (types : Types) → types_of diagram ≡ types
+    → AllKeep diagram (IsNotWide diagram types) → AllKeep diagram (HasTypes diagram types)
+    → AllKeep diagram (HasAgreeing diagram types)
     → KeepsTypes diagram
 types_kept diagram types are narrow known agree = record {
   narrow = subst (λ (t : Types). AllKeep diagram (IsNotWide diagram t)) (sym are) narrow;
@@ -101,5 +106,6 @@ types_kept diagram types are narrow known agree = record {
   agree = subst (λ (t : Types). AllKeep diagram (HasAgreeing diagram t)) (sym are) agree;
 }
 
-pub rates_kept : (diagram : Diagram) (periods : List (Option ℕ)) → periods_of diagram ≡ periods → AllKeep diagram (KeepsDeclared diagram) → AllKeep diagram (KeepsPeriods diagram periods) → KeepsRates diagram
+pub rates_kept : (diagram : Diagram) (periods : List (Option ℕ)) → periods_of diagram ≡ periods
+    → AllKeep diagram (KeepsDeclared diagram) → AllKeep diagram (KeepsPeriods diagram periods) → KeepsRates diagram
 rates_kept diagram periods are declared kept = record { declared = declared; periods = subst (λ (p : List (Option ℕ)). AllKeep diagram (KeepsPeriods diagram p)) (sym are) kept }

@@ -1,5 +1,6 @@
 -- The rules that a diagram keeps which is worked out by hand, tried by computation over widths, types and periods that are written out.
-use Rattle.std.proofs.Common.{◌≡◌, ℕ, zero, suc, ◌*◌, ◌≤◌, ◌⊎◌, inl, inr, Bool, true, false, true≢false, ◌&&◌, ◌||◌, ◌==◌, eqb, nat_le, List, [], ◌∷◌, length, get_or, All, Option, Some, None, is_some, is_none, slice_get, slice_index_or, MatchOption, count_by, filter_map, sym, subst, refl, arith}
+use Rattle.std.proofs.Common.{◌≡◌, ℕ, zero, suc, ◌*◌, ◌≤◌, ◌⊎◌, inl, inr, Bool, true, false, true≢false, ◌&&◌, ◌||◌, ◌==◌, eqb, nat_le, List, [], ◌∷◌, length, get_or, All, Option, Some, None, is_some}
+use Rattle.std.proofs.Common.{is_none, slice_get, slice_index_or, MatchOption, count_by, filter_map, sym, subst, refl, arith}
 use Rattle.std.specs.Cmp.Lexicographic.{pointwise}
 use Rattle.std.specs.Prelude.{⊤}
 use Rattle.std.specs.List.{list_all}
@@ -158,7 +159,9 @@ abbrev declares : Diagram → Option Decimal → Bool
 declares diagram None = true
 declares diagram (Some decimal) = nat_le (multiple_of diagram decimal) 4096 && (units_of decimal == multiple_of diagram decimal * base_units diagram)
 
-declared_by : (diagram : Diagram) (declared : Option Decimal) → declares diagram declared ≡ true → MatchOption declared ⊤ (λ decimal. (times : ℕ) × (times ≤ 4096) × (units_of decimal ≡ times * base_units diagram))
+declared_by : (diagram : Diagram) (declared : Option Decimal) → declares diagram declared ≡ true
+    → MatchOption declared ⊤
+    (λ decimal. (times : ℕ) × (times ≤ 4096) × (units_of decimal ≡ times * base_units diagram))
 declared_by diagram None is = tt
 declared_by diagram (Some decimal) is =
     let parts = and_parts (nat_le (multiple_of diagram decimal) 4096) (units_of decimal == multiple_of diagram decimal * base_units diagram) is in
@@ -248,8 +251,13 @@ module _ (diagram : Diagram) (columns : Columns) where
       let placed = both (driven_by diagram.edges k b.inputs) (both (controlled_by diagram.blocks b.enable) (stands_by (row_of b.kind).place.stands b.enable)) all.0 in
       let widths =
       both (slice_eq-Decides Decides-eqb next own (pointwise eqb next own) refl).0
-      (both (AllPass-from_list_all (λ w. nat_le w 1024) own) (both (AllPass-from_list_all (λ list. is_repeated width (length list)) (row_of b.kind).signal.lists) (declared_width width (row_of b.kind).signal.width))) more.0 in
-      let typed = both (asked (names_full_type b.kind b.result) (is_some (full_type (row_of b.kind).types.full types))) (both (λ (some : is_some (known_at columns.types k) ≡ true). some) (AllPass-from_list_all is_some types)) rest.0 in
+      (both (AllPass-from_list_all (λ w. nat_le w 1024) own)
+      (both (AllPass-from_list_all (λ list. is_repeated width (length list)) (row_of b.kind).signal.lists)
+      (declared_width width (row_of b.kind).signal.width))) more.0 in
+      let typed = both (asked (names_full_type b.kind b.result)
+      (is_some (full_type (row_of b.kind).types.full types)))
+      (both (λ (some : is_some (known_at columns.types k) ≡ true). some)
+      (AllPass-from_list_all is_some types)) rest.0 in
       let agreed =
       both (agree_by (row_of b.kind).signal.shape own (input_widths diagram columns.widths k) types) (written_by (row_of b.kind).place.role b.result types) last.0 in
       let timed = both (declared_by diagram (declared_period b.period)) (none_by (disagreeing diagram columns.periods k b)) last.1 in
@@ -287,7 +295,9 @@ module _ (diagram : Diagram) (columns : Columns) where
         (parts.0, record { outputs = parts.1.0; inputs = parts.1.1.0; delays = parts.1.1.1 })
 
     -- the rules are kept where the blocks can be read, the ports have their numbers and nothing leads back
-    pub checked_by : All IsReadable diagram.blocks → AreNumbered (filter_map (λ block. root_input (row_of block.kind).place.role) diagram.blocks) → AreNumbered (filter_map (λ block. root_output (row_of block.kind).place.role) diagram.blocks)
+    pub checked_by : All IsReadable diagram.blocks
+        → AreNumbered (filter_map (λ block. root_input (row_of block.kind).place.role) diagram.blocks)
+        → AreNumbered (filter_map (λ block. root_output (row_of block.kind).place.role) diagram.blocks)
         → KeepsLoop diagram (attributes_of diagram) → IsChecked diagram
     checked_by readable inports outports loops =
         let blocks : List Block = diagram.blocks in
@@ -310,7 +320,9 @@ module _ (diagram : Diagram) (columns : Columns) where
         }
 
     -- and the order of the file is one, where all lines lead to later blocks
-    pub ordered_by : All IsReadable diagram.blocks → AreNumbered (filter_map (λ block. root_input (row_of block.kind).place.role) diagram.blocks) → AreNumbered (filter_map (λ block. root_output (row_of block.kind).place.role) diagram.blocks)
+    pub ordered_by : All IsReadable diagram.blocks
+        → AreNumbered (filter_map (λ block. root_input (row_of block.kind).place.role) diagram.blocks)
+        → AreNumbered (filter_map (λ block. root_output (row_of block.kind).place.role) diagram.blocks)
         → list_all leads_up (latency_edges diagram) ≡ true → IsOrdered diagram (numbers_from 0 (length diagram.blocks))
     ordered_by readable inports outports up =
         record { checked = checked_by readable inports outports (no_loop diagram (attributes_of diagram) up); ordered = file_order diagram (attributes_of diagram) up }

@@ -1,5 +1,6 @@
 -- Parts of small diagrams that are worked out by hand, and the order of those whose lines all lead to later blocks.
-use Rattle.std.proofs.Common.{◌≡◌, ℕ, zero, suc, ◌+◌, ◌-◌, ◌%◌, ◌^◌, ◌<◌, ◌≤◌, inl, ℤ, pos, Bool, true, false, ◌&&◌, List, [], ◌∷◌, length, get_or, Option, Some, None, slice_get, All, ap, sym, ◌∙◌, subst, refl, arith}
+use Rattle.std.proofs.Common.{◌≡◌, ℕ, zero, suc, ◌+◌, ◌-◌, ◌%◌, ◌^◌, ◌<◌, ◌≤◌, inl, ℤ, pos, Bool, true, false, ◌&&◌, List, [], ◌∷◌, length, get_or, Option, Some, None, slice_get, All, ap, sym, ◌∙◌}
+use Rattle.std.proofs.Common.{subst, refl, arith}
 use Rattle.std.specs.Prelude.{nat_lt, slice_index, IsSome, count_by}
 use Rattle.std.specs.List.{list_all}
 use Rattle.std.proofs.Math.Dec.{lit≤}
@@ -195,7 +196,9 @@ module _ (diagram : Diagram) (attributes : Attributes) (all : list_all leads_up 
       ends far leads =
           let whole : suc last ≡ length cycle = omega (arith, is.some) in
           let round : suc last % length cycle ≡ 0 = ap (λ (m : ℕ). m % length cycle) whole ∙ mod_self (length cycle) in
-          let less : slice_index cycle last < slice_index cycle 0 = subst (λ (i : ℕ). slice_index cycle last < slice_index cycle i) round (up (slice_index cycle last) (slice_index cycle (suc last % length cycle)) leads) in
+          let less : slice_index cycle last < slice_index cycle 0 =
+          subst (λ (i : ℕ). slice_index cycle last < slice_index cycle i) round
+          (up (slice_index cycle last) (slice_index cycle (suc last % length cycle)) leads) in
           omega (arith, far, less)
 
 -- ---- attributes written out
@@ -218,4 +221,6 @@ attributes_by diagram widths types periods = record {
 pub attributes_are : (diagram : Diagram) (widths : Widths) (types : Types) (periods : List (Option ℕ)) → widths_of diagram ≡ widths → types_of diagram ≡ types → periods_of diagram ≡ periods
     → attributes_of diagram ≡ attributes_by diagram widths types periods
 attributes_are diagram widths types periods w t p =
-    ap (λ (x : Widths). attributes_by diagram x (types_of diagram) (periods_of diagram)) w ∙ ap (λ (x : Types). attributes_by diagram widths x (periods_of diagram)) t ∙ ap (λ (x : List (Option ℕ)). attributes_by diagram widths types x) p
+    ap (λ (x : Widths). attributes_by diagram x (types_of diagram) (periods_of diagram)) w
+    ∙ ap (λ (x : Types). attributes_by diagram widths x (periods_of diagram)) t
+    ∙ ap (λ (x : List (Option ℕ)). attributes_by diagram widths types x) p

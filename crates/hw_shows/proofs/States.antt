@@ -60,7 +60,9 @@ module _ (clocks k n : ℕ) (span : Span) (p count : ℕ) (reset : Bool) (first 
         one : pos 1 ≢ pos 0
         one e = absurd (omega (arith, ints, e))
 
-        taken : EnRegShows clocks span reset first enable (state j) (state (suc j)) → IsMoved (move_of reset true) first (state j (frame_end span i)) (state (suc j) (frame_end span i)) (state (suc j) c)
+        taken : EnRegShows clocks span reset first enable (state j) (state (suc j))
+            → IsMoved (move_of reset true) first (state j (frame_end span i)) (state (suc j) (frame_end span i))
+            (state (suc j) c)
         taken h = go reset
           where
             now : state (suc j) c ≡ state j (frame_end span i)

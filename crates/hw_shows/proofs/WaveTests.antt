@@ -1,5 +1,6 @@
 -- Waves written out as numbers are tried by computation.
-use Rattle.std.proofs.Common.{◌≡◌, ◌≢◌, ℕ, zero, suc, ◌+◌, ◌-◌, ◌*◌, ◌%◌, ◌<◌, ◌≤◌, ◌⊎◌, inl, inr, ◌==◌, ◌&&◌, Bool, true, false, true≢false, ℤ, pos, List, slice_index_or, Option, Some, min, ap, sym, ◌∙◌, ◌*ℤ◌, arith, eq-or-lt_of_le, le_of_suc-le-suc, mul-le-mul_left}
+use Rattle.std.proofs.Common.{◌≡◌, ◌≢◌, ℕ, zero, suc, ◌+◌, ◌-◌, ◌*◌, ◌%◌, ◌<◌, ◌≤◌, ◌⊎◌, inl, inr, ◌==◌, ◌&&◌, Bool, true, false, true≢false, ℤ, pos, List, slice_index_or, Option, Some, min, ap, sym}
+use Rattle.std.proofs.Common.{◌∙◌, ◌*ℤ◌, arith, eq-or-lt_of_le, le_of_suc-le-suc, mul-le-mul_left}
 use Rattle.std.specs.Prelude.{nat_le, nat_lt}
 use Rattle.std.specs.Ordering.{int_eq}
 use Rattle.std.proofs.lemmas.Bool.{and_parts, and_from, le-leb, lt-ltb, eq-eqb, eqb-true, leb-true, cases_Bool}
@@ -53,14 +54,18 @@ abbrev pub shows_test : ℕ → ℕ → ℕ → ℕ → ℕ → ℕ → (ℕ →
 shows_test clocks n cycles period latency ready entry wave =
     each_below n (λ t. each_below clocks (λ c. if_so (is_seen cycles period latency ready t c) (int_eq (wave c) (entry t))))
 
-pub tried_shows : (clocks n cycles period latency ready : ℕ) (entry : ℕ → ℤ) (wave : Wave) → shows_test clocks n cycles period latency ready entry wave ≡ true → Shows clocks n cycles (Some period) latency ready entry wave
+pub tried_shows : (clocks n cycles period latency ready : ℕ) (entry : ℕ → ℤ) (wave : Wave)
+    → shows_test clocks n cycles period latency ready entry wave ≡ true
+    → Shows clocks n cycles (Some period) latency ready entry wave
 tried_shows clocks n cycles period latency ready entry wave e = record {
   at = λ t c below early seen.
       let hit = each_holds n (λ t. each_below clocks (λ c. if_so (is_seen cycles period latency ready t c) (int_eq (wave c) (entry t)))) e t below in
       let clock = each_holds clocks (λ c. if_so (is_seen cycles period latency ready t c) (int_eq (wave c) (entry t))) hit c early in
       let is : is_seen cycles period latency ready t c ≡ true =
       and_from ((t % period) == 0) (nat_le ((t + latency) * cycles + ready) c && nat_lt c ((t + latency + period) * cycles)) (eq-eqb (t % period) 0 seen.is_hit)
-      (and_from (nat_le ((t + latency) * cycles + ready) c) (nat_lt c ((t + latency + period) * cycles)) (le-leb ((t + latency) * cycles + ready) c seen.from) (lt-ltb c ((t + latency + period) * cycles) seen.until)) in
+      (and_from (nat_le ((t + latency) * cycles + ready) c) (nat_lt c ((t + latency + period) * cycles))
+      (le-leb ((t + latency) * cycles + ready) c seen.from)
+      (lt-ltb c ((t + latency + period) * cycles) seen.until)) in
       same_number (wave c) (entry t) (so (is_seen cycles period latency ready t c) (int_eq (wave c) (entry t)) is clock);
 }
 
@@ -107,7 +112,9 @@ pub tried_reg : (last : ℕ) (span : Span) (slot : ℕ) (first : ℤ) (from wave
 tried_reg last span slot first from wave e =
     let parts = and_parts (int_eq (wave 0) first) (each_below last (λ c. int_eq (wave (c + 1)) (next_of (takes_at span slot c) (from c) (wave c)))) e in
     let step : (c : ℕ) → c + 1 < suc last → wave (c + 1) ≡ next_of (takes_at span slot c) (from c) (wave c) =
-    λ c below. same_number (wave (c + 1)) (next_of (takes_at span slot c) (from c) (wave c)) (each_holds last (λ c. int_eq (wave (c + 1)) (next_of (takes_at span slot c) (from c) (wave c))) parts.1 c (omega arith)) in
+    λ c below. same_number (wave (c + 1)) (next_of (takes_at span slot c) (from c) (wave c))
+    (each_holds last (λ c. int_eq (wave (c + 1)) (next_of (takes_at span slot c) (from c) (wave c))) parts.1 c
+    (omega arith)) in
     record {
       begins = λ some. same_number (wave 0) first parts.0;
       takes = λ c below takes. step c below ∙ ap (λ (b : Bool). next_of b (from c) (wave c)) (does_take span slot c takes);
@@ -127,19 +134,27 @@ abbrev pub en_test : ℕ → Span → Bool → ℤ → Wave → Wave → Wave �
 en_test last span reset first enable from wave =
     int_eq (wave 0) first && each_below last (λ c. int_eq (wave (c + 1)) (next_of (takes_at span (span.length - 1) c) (choice_of (int_eq (enable c) (pos 0)) reset (from c) (wave c) first) (wave c)))
 
-pub tried_en : (last : ℕ) (span : Span) (reset : Bool) (first : ℤ) (enable from wave : Wave) → en_test last span reset first enable from wave ≡ true → IsEnReg (suc last) span reset first enable from wave
+pub tried_en : (last : ℕ) (span : Span) (reset : Bool) (first : ℤ) (enable from wave : Wave)
+    → en_test last span reset first enable from wave ≡ true → IsEnReg (suc last) span reset first enable from wave
 tried_en last span reset first enable from wave e =
     let test : ℕ → Bool = λ c. int_eq (wave (c + 1)) (next_of (takes_at span (span.length - 1) c) (choice_of (int_eq (enable c) (pos 0)) reset (from c) (wave c) first) (wave c)) in
     let parts = and_parts (int_eq (wave 0) first) (each_below last test) e in
     let step : (c : ℕ) → c + 1 < suc last → wave (c + 1) ≡ next_of (takes_at span (span.length - 1) c) (choice_of (int_eq (enable c) (pos 0)) reset (from c) (wave c) first) (wave c) =
-    λ c below. same_number (wave (c + 1)) (next_of (takes_at span (span.length - 1) c) (choice_of (int_eq (enable c) (pos 0)) reset (from c) (wave c) first) (wave c)) (each_holds last test parts.1 c (omega arith)) in
+    λ c below. same_number (wave (c + 1))
+    (next_of (takes_at span (span.length - 1) c)
+    (choice_of (int_eq (enable c) (pos 0)) reset (from c) (wave c) first) (wave c))
+    (each_holds last test parts.1 c (omega arith)) in
     let taken : (c : ℕ) → c + 1 < suc last → Takes span (span.length - 1) c → wave (c + 1) ≡ choice_of (int_eq (enable c) (pos 0)) reset (from c) (wave c) first =
     λ c below takes. step c below ∙ ap (λ (b : Bool). next_of b (choice_of (int_eq (enable c) (pos 0)) reset (from c) (wave c) first) (wave c)) (does_take span (span.length - 1) c takes) in
     record {
       begins = λ some. same_number (wave 0) first parts.0;
       takes = λ c below takes on. taken c below takes ∙ ap (λ (b : Bool). choice_of b reset (from c) (wave c) first) (not_same (enable c) on);
-      resets = λ c below takes off is. taken c below takes ∙ ap (λ (b : Bool). choice_of b reset (from c) (wave c) first) ((Decides-int_eq (enable c) (pos 0)).1 off) ∙ ap (λ (b : Bool). rest_of b (wave c) first) is;
-      stays = λ c below takes off is. taken c below takes ∙ ap (λ (b : Bool). choice_of b reset (from c) (wave c) first) ((Decides-int_eq (enable c) (pos 0)).1 off) ∙ ap (λ (b : Bool). rest_of b (wave c) first) is;
+      resets = λ c below takes off is. taken c below takes
+          ∙ ap (λ (b : Bool). choice_of b reset (from c) (wave c) first) ((Decides-int_eq (enable c) (pos 0)).1 off)
+          ∙ ap (λ (b : Bool). rest_of b (wave c) first) is;
+      stays = λ c below takes off is. taken c below takes
+          ∙ ap (λ (b : Bool). choice_of b reset (from c) (wave c) first) ((Decides-int_eq (enable c) (pos 0)).1 off)
+          ∙ ap (λ (b : Bool). rest_of b (wave c) first) is;
       keeps = λ c below misses. step c below ∙ ap (λ (b : Bool). next_of b (choice_of (int_eq (enable c) (pos 0)) reset (from c) (wave c) first) (wave c)) (no_take span (span.length - 1) c misses);
     }
   where
@@ -162,11 +177,19 @@ tried_line clocks line source result e some = record {
       let low : t * 1 ≤ t * line.cycles = mul-le-mul_left t some in
       let from : (t + line.reader.latency) * line.cycles ≤ c = sees.from in
       let until : c < (t + line.reader.latency) * line.cycles + line.reader.period * line.cycles = sees.until in
-      let hit = each_holds clocks (λ t. each_below clocks (λ c. if_so (is_seen line.cycles line.reader.period line.reader.latency 0 t c) (int_eq (result c) (source (min c (own_end line t)))))) e t (omega (arith, sees.below)) in
+      let hit = each_holds clocks (λ t. each_below clocks
+      (λ c. if_so (is_seen line.cycles line.reader.period line.reader.latency 0 t c)
+      (int_eq (result c) (source (min c (own_end line t)))))) e t (omega (arith, sees.below)) in
       let clock = each_holds clocks (λ c. if_so (is_seen line.cycles line.reader.period line.reader.latency 0 t c) (int_eq (result c) (source (min c (own_end line t))))) hit c sees.below in
       let is : is_seen line.cycles line.reader.period line.reader.latency 0 t c ≡ true =
-      and_from ((t % line.reader.period) == 0) (nat_le ((t + line.reader.latency) * line.cycles + 0) c && nat_lt c ((t + line.reader.latency + line.reader.period) * line.cycles)) (eq-eqb (t % line.reader.period) 0 sees.is_hit)
-      (and_from (nat_le ((t + line.reader.latency) * line.cycles + 0) c) (nat_lt c ((t + line.reader.latency + line.reader.period) * line.cycles)) (le-leb ((t + line.reader.latency) * line.cycles + 0) c (omega arith)) (lt-ltb c ((t + line.reader.latency + line.reader.period) * line.cycles) (omega arith))) in
+      and_from ((t % line.reader.period) == 0)
+      (nat_le ((t + line.reader.latency) * line.cycles + 0) c
+      && nat_lt c ((t + line.reader.latency + line.reader.period) * line.cycles))
+      (eq-eqb (t % line.reader.period) 0 sees.is_hit)
+      (and_from (nat_le ((t + line.reader.latency) * line.cycles + 0) c)
+      (nat_lt c ((t + line.reader.latency + line.reader.period) * line.cycles))
+      (le-leb ((t + line.reader.latency) * line.cycles + 0) c (omega arith))
+      (lt-ltb c ((t + line.reader.latency + line.reader.period) * line.cycles) (omega arith))) in
       same_number (result c) (source (min c (own_end line t))) (so (is_seen line.cycles line.reader.period line.reader.latency 0 t c) (int_eq (result c) (source (min c (own_end line t)))) is clock);
 }
 
@@ -177,12 +200,20 @@ abbrev pub product_test : ℕ → Span → ℕ → Wave → Wave → Wave → Bo
 product_test clocks span slot left right product =
     each_below clocks (λ k. each_below clocks (λ c. if_so (is_held span slot k c) (int_eq (product c) (left (frame_start span k + slot) *ℤ right (frame_start span k + slot)))))
 
-pub tried_product : (clocks : ℕ) (span : Span) (slot : ℕ) (left right product : Wave) → product_test clocks span slot left right product ≡ true → 0 < span.length → IsProductAt clocks span slot left right product
+pub tried_product : (clocks : ℕ) (span : Span) (slot : ℕ) (left right product : Wave)
+    → product_test clocks span slot left right product ≡ true → 0 < span.length
+    → IsProductAt clocks span slot left right product
 tried_product clocks span slot left right product e some = record {
   holds = λ k c below from until.
       let low : k * 1 ≤ k * span.length = mul-le-mul_left k some in
-      let frame = each_holds clocks (λ k. each_below clocks (λ c. if_so (is_held span slot k c) (int_eq (product c) (left (frame_start span k + slot) *ℤ right (frame_start span k + slot))))) e k (omega arith) in
+      let frame = each_holds clocks (λ k. each_below clocks
+      (λ c. if_so (is_held span slot k c)
+      (int_eq (product c) (left (frame_start span k + slot) *ℤ right (frame_start span k + slot))))) e k
+      (omega arith) in
       let clock = each_holds clocks (λ c. if_so (is_held span slot k c) (int_eq (product c) (left (frame_start span k + slot) *ℤ right (frame_start span k + slot)))) frame c below in
-      let is = and_from (nat_lt (frame_start span k + slot) c) (nat_lt c (frame_start span k + span.length)) (lt-ltb (frame_start span k + slot) c from) (lt-ltb c (frame_start span k + span.length) until) in
-      same_number (product c) (left (frame_start span k + slot) *ℤ right (frame_start span k + slot)) (so (is_held span slot k c) (int_eq (product c) (left (frame_start span k + slot) *ℤ right (frame_start span k + slot))) is clock);
+      let is = and_from (nat_lt (frame_start span k + slot) c) (nat_lt c (frame_start span k + span.length))
+      (lt-ltb (frame_start span k + slot) c from) (lt-ltb c (frame_start span k + span.length) until) in
+      same_number (product c) (left (frame_start span k + slot) *ℤ right (frame_start span k + slot))
+      (so (is_held span slot k c) (int_eq (product c)
+      (left (frame_start span k + slot) *ℤ right (frame_start span k + slot))) is clock);
 }

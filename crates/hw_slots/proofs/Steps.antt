@@ -1,5 +1,6 @@
 -- One operation more, in counts and in greatest numbers.
-use Rattle.std.proofs.Common.{◌≡◌, ℕ, zero, suc, ◌+◌, ◌-◌, ◌*◌, ◌/◌, ◌%◌, min, ◌<◌, ◌≤◌, Bool, true, false, cond, List, [], ◌∷◌, ◌++◌, length, map, take, refl, sym, ap, subst, ◌∙◌, inl, inr, length-append, arith}
+use Rattle.std.proofs.Common.{◌≡◌, ℕ, zero, suc, ◌+◌, ◌-◌, ◌*◌, ◌/◌, ◌%◌, min, ◌<◌, ◌≤◌, Bool, true, false, cond, List, [], ◌∷◌, ◌++◌, length, map, take, refl, sym, ap, subst, ◌∙◌, inl, inr}
+use Rattle.std.proofs.Common.{length-append, arith}
 use Rattle.std.specs.Prelude.{slice_get, Option, Some, count_by, max, ◌&&◌, ◌==◌}
 use Rattle.std.proofs.lemmas.Bool.{eqb-true, ne_eqb, false≢true, and_parts, cases_lt}
 use Rattle.std.proofs.lemmas.List.{take_all}
@@ -35,7 +36,9 @@ Puts old new owner level number = (other later : ℕ) → tally_at new other lat
 abbrev Raises : List ((ℕ × ℕ) × ℕ) → List ((ℕ × ℕ) × ℕ) → ℕ → ℕ → ℕ → Type 0
 Raises old new owner level number = Puts old new owner level (max (tally_at old owner level) number)
 
-put_one : (old : List ((ℕ × ℕ) × ℕ)) (owner level other later number : ℕ) (test : Bool) → ((owner == other) && (level == later)) ≡ test → number ≡ tally_at old owner level + 1 → cond test number (tally_at old other later) ≡ tally_at old other later + cond test 1 0
+put_one : (old : List ((ℕ × ℕ) × ℕ)) (owner level other later number : ℕ) (test : Bool)
+    → ((owner == other) && (level == later)) ≡ test → number ≡ tally_at old owner level + 1
+    → cond test number (tally_at old other later) ≡ tally_at old other later + cond test 1 0
 put_one old owner level other later number true e is =
     let parts = and_parts (owner == other) (level == later) e in
     let a : owner ≡ other = eqb-true owner other parts.0 in
@@ -44,7 +47,10 @@ put_one old owner level other later number true e is =
     omega (arith, is, same)
 put_one old owner level other later number false e is = omega arith
 
-raise_one : (old : List ((ℕ × ℕ) × ℕ)) (owner level other later number : ℕ) (test : Bool) → ((owner == other) && (level == later)) ≡ test → cond test (max (tally_at old owner level) number) (tally_at old other later) ≡ max (tally_at old other later) (cond test number 0)
+raise_one : (old : List ((ℕ × ℕ) × ℕ)) (owner level other later number : ℕ) (test : Bool)
+    → ((owner == other) && (level == later)) ≡ test
+    → cond test (max (tally_at old owner level) number) (tally_at old other later)
+    ≡ max (tally_at old other later) (cond test number 0)
 raise_one old owner level other later number true e =
     let parts = and_parts (owner == other) (level == later) e in
     let a : owner ≡ other = eqb-true owner other parts.0 in
@@ -57,7 +63,9 @@ raise_one old owner level other later number false e = omega arith
 pub counts_none : (operations : List Operation) (tally : List ((ℕ × ℕ) × ℕ)) → tally ≡ [] → AreCounts (take 0 operations) tally
 counts_none operations tally none = subst (λ (entries : List ((ℕ × ℕ) × ℕ)). AreCounts (take 0 operations) entries) (sym none) (record { are = λ kind level. refl })
 
-pub counts_more : (operations : List Operation) (i : ℕ) (o : Operation) (count : ℕ) (old new : List ((ℕ × ℕ) × ℕ)) → slice_get operations i ≡ Some o → count ≡ tally_at old o.kind o.level + 1 → Puts old new o.kind o.level count → AreCounts (take i operations) old → AreCounts (take (i + 1) operations) new
+pub counts_more : (operations : List Operation) (i : ℕ) (o : Operation) (count : ℕ) (old new : List ((ℕ × ℕ) × ℕ))
+    → slice_get operations i ≡ Some o → count ≡ tally_at old o.kind o.level + 1 → Puts old new o.kind o.level count
+    → AreCounts (take i operations) old → AreCounts (take (i + 1) operations) new
 counts_more operations i o count old new at is puts before = subst (λ (n : ℕ). AreCounts (take n operations) new) (next i) (record {
   are = λ kind level.
       let step = count_next (λ (q : Operation). (q.kind == kind) && (q.level == level)) operations i o at in
@@ -90,10 +98,15 @@ grown Says operations i o x xs at size before last number q below is =
 pub grown_size : (xs : List ℕ) (x i : ℕ) → length xs ≡ i → length (xs ++ x ∷ []) ≡ i + 1
 grown_size xs x i size = omega (arith, size, length-append xs (x ∷ []))
 
-pub turns_more : (operations : List Operation) (i : ℕ) (o : Operation) (turn : ℕ) (counts : List ((ℕ × ℕ) × ℕ)) (turns : List ℕ) → slice_get operations i ≡ Some o → turn ≡ tally_at counts o.kind o.level → AreCounts (take i operations) counts → AreTurns operations i turns → AreTurns operations (i + 1) (turns ++ turn ∷ [])
+pub turns_more : (operations : List Operation) (i : ℕ) (o : Operation) (turn : ℕ) (counts : List ((ℕ × ℕ) × ℕ))
+    (turns : List ℕ) → slice_get operations i ≡ Some o → turn ≡ tally_at counts o.kind o.level
+    → AreCounts (take i operations) counts → AreTurns operations i turns
+    → AreTurns operations (i + 1) (turns ++ turn ∷ [])
 turns_more operations i o turn counts turns at is count_cons before = record {
   size = grown_size turns turn i before.size;
-  are = λ number q below there. grown (λ n p r. r ≡ Some (turn_of operations n p)) operations i o turn turns at before.size (λ n p less is. before.are n p less is) (ap Some (is ∙ count_cons.are o.kind o.level)) number q below there;
+  are = λ number q below there. grown (λ n p r. r ≡ Some (turn_of operations n p)) operations i o turn turns at
+      before.size (λ n p less is. before.are n p less is)
+      (ap Some (is ∙ count_cons.are o.kind o.level)) number q below there;
 }
 
 pub turns_end : (operations : List Operation) (i : ℕ) (turns : List ℕ) → i ≡ length operations → AreTurns operations i turns → AreTurns operations (length operations) turns
@@ -109,7 +122,9 @@ pub greatest_none : (operations : List Operation) (f : ℕ → ℕ → Operation
 greatest_none operations f tally none = subst (AreGreatest (take 0 operations) f) (sym none) (record { are = λ owner level. refl })
 
 pub greatest_more : (operations : List Operation) (f : ℕ → ℕ → Operation → ℕ) (i : ℕ) (o : Operation) (owner level number : ℕ) (old new : List ((ℕ × ℕ) × ℕ)) → slice_get operations i ≡ Some o
-    → ((other later : ℕ) → f other later o ≡ cond ((owner == other) && (level == later)) number 0) → Raises old new owner level number → AreGreatest (take i operations) f old → AreGreatest (take (i + 1) operations) f new
+    → ((other later : ℕ) → f other later o ≡ cond ((owner == other) && (level == later)) number 0)
+    → Raises old new owner level number → AreGreatest (take i operations) f old
+    → AreGreatest (take (i + 1) operations) f new
 greatest_more operations f i o owner level number old new at gives raises before = record {
   are = λ other later.
       raises other later ∙ raise_one old owner level other later number ((owner == other) && (level == later)) refl
@@ -118,7 +133,8 @@ greatest_more operations f i o owner level number old new at gives raises before
       ∙ sym (greatest_next (f other later) operations i o at);
 }
 
-pub greatest_end : (operations : List Operation) (f : ℕ → ℕ → Operation → ℕ) (i : ℕ) (tally : List ((ℕ × ℕ) × ℕ)) → length operations ≤ i → AreGreatest (take i operations) f tally → AreGreatest operations f tally
+pub greatest_end : (operations : List Operation) (f : ℕ → ℕ → Operation → ℕ) (i : ℕ) (tally : List ((ℕ × ℕ) × ℕ))
+    → length operations ≤ i → AreGreatest (take i operations) f tally → AreGreatest operations f tally
 greatest_end operations f i tally end made = subst (λ (os : List Operation). AreGreatest os f tally) (take_all i operations end) made
 
 -- a number shared out is the quotient, and one more where something is left
@@ -142,10 +158,14 @@ shared_is count parts some = go (count % parts) refl
         let shared : (count + (parts - 1)) / parts ≡ suc (count / parts) = ap (λ (n : ℕ). n / parts) whole ∙ div-mul-add (suc (count / parts)) parts rest (omega (arith, below, e)) in
         omega (arith, one, shared)
 
-pub slots_given : (operations : List Operation) (multipliers : ℕ) (counts : List ((ℕ × ℕ) × ℕ)) (o : Operation) (count slots : ℕ) → AreCounts operations counts → count ≡ tally_at counts o.kind o.level → slots ≡ shared_out count multipliers
+pub slots_given : (operations : List Operation) (multipliers : ℕ) (counts : List ((ℕ × ℕ) × ℕ)) (o : Operation)
+    (count slots : ℕ) → AreCounts operations counts → count ≡ tally_at counts o.kind o.level
+    → slots ≡ shared_out count multipliers
     → (other later : ℕ) → needed operations multipliers other later o ≡ cond ((o.period == other) && (o.level == later)) slots 0
 slots_given operations multipliers counts o count slots count_cons is shared other later =
-    ap (λ (n : ℕ). cond ((o.period == other) && (o.level == later)) n 0) (ap (λ (n : ℕ). shared_out n multipliers) (sym (count_cons.are o.kind o.level)) ∙ ap (λ (n : ℕ). shared_out n multipliers) (sym is) ∙ sym shared)
+    ap (λ (n : ℕ). cond ((o.period == other) && (o.level == later)) n 0)
+    (ap (λ (n : ℕ). shared_out n multipliers) (sym (count_cons.are o.kind o.level))
+    ∙ ap (λ (n : ℕ). shared_out n multipliers) (sym is) ∙ sym shared)
 
 -- what is told of owners alone stands at level 0
 abbrev pub at_first : (ℕ → Operation → ℕ) → ℕ → ℕ → Operation → ℕ
@@ -167,14 +187,18 @@ later_given owner other number level = go (owner == other) (0 == suc level) (ne_
     go true false e = refl
     go false later e = refl
 
-pub firsts_given : (f : ℕ → Operation → ℕ) (o : Operation) (owner number : ℕ) → ((other : ℕ) → f other o ≡ cond (owner == other) number 0) → (other later : ℕ) → at_first f other later o ≡ cond ((owner == other) && (0 == later)) number 0
+pub firsts_given : (f : ℕ → Operation → ℕ) (o : Operation) (owner number : ℕ)
+    → ((other : ℕ) → f other o ≡ cond (owner == other) number 0) → (other later : ℕ)
+    → at_first f other later o ≡ cond ((owner == other) && (0 == later)) number 0
 firsts_given f o owner number gives other zero = first_given owner other number (f other o) (gives other)
 firsts_given f o owner number gives other (suc later) = later_given owner other number later
 
 pub levels_given : (o : Operation) (after : ℕ) → after ≡ o.level + 1 → (other : ℕ) → level_after other o ≡ cond (o.period == other) after 0
 levels_given o after is other = ap (λ (n : ℕ). cond (o.period == other) n 0) (sym is)
 
-pub most_given : (operations : List Operation) (counts : List ((ℕ × ℕ) × ℕ)) (o : Operation) (count : ℕ) → AreCounts operations counts → count ≡ tally_at counts o.kind o.level → (other : ℕ) → beside operations other o ≡ cond (o.kind == other) count 0
+pub most_given : (operations : List Operation) (counts : List ((ℕ × ℕ) × ℕ)) (o : Operation) (count : ℕ)
+    → AreCounts operations counts → count ≡ tally_at counts o.kind o.level → (other : ℕ)
+    → beside operations other o ≡ cond (o.kind == other) count 0
 most_given operations counts o count count_cons is other = ap (λ (n : ℕ). cond (o.kind == other) n 0) (sym (count_cons.are o.kind o.level) ∙ sym is)
 
 pub are_widths : (operations : List Operation) (multipliers : ℕ) (tally : List ((ℕ × ℕ) × ℕ)) → AreGreatest operations (needed operations multipliers) tally → AreWidths operations multipliers tally

@@ -17,7 +17,10 @@ same-rung owner level other later =
     sym (tied_then (nat_cmp owner other) (nat_cmp level later)) ∙ rw (p, q) refl
 
 -- what a tally has after a number was put
-pub found_at : (owner level other later number : ℕ) (old new : List ((ℕ × ℕ) × ℕ)) → lookup (is_at (compare_rungs (other, later))) new ≡ cond (is_eq (compare_rungs (owner, level) (other, later))) (Some number) (lookup (is_at (compare_rungs (other, later))) old)
+pub found_at : (owner level other later number : ℕ) (old new : List ((ℕ × ℕ) × ℕ))
+    → lookup (is_at (compare_rungs (other, later))) new
+    ≡ cond (is_eq (compare_rungs (owner, level) (other, later))) (Some number)
+    (lookup (is_at (compare_rungs (other, later))) old)
     → tally_at new other later ≡ cond ((owner == other) && (level == later)) number (tally_at old other later)
 found_at owner level other later number old new e =
     ap (λ (o : Option ℕ). unwrap_or o 0) e ∙ go (is_eq (compare_rungs (owner, level) (other, later))) ((owner == other) && (level == later)) (same-rung owner level other later)

@@ -18,7 +18,9 @@ use Rattle.hw_trim.specs.inner.Marks.{IsNeeded}
 use Rattle.hw_trim.proofs.MarkCounts.{kept-is}
 use Rattle.hw_trim.proofs.Trim.{can, drops}
 
-module _ (old : Circuit) (runs : IsNetlist old) (emits : IsEmittable old) (marks : List Bool) (needed : IsNeeded old marks) (kept list : List ℕ) (kept-are : kept ≡ kept_of marks (length marks)) (are : ArePlaces marks list (length marks)) where
+module _ (old : Circuit) (runs : IsNetlist old) (emits : IsEmittable old) (marks : List Bool)
+    (needed : IsNeeded old marks) (kept list : List ℕ) (kept-are : kept ≡ kept_of marks (length marks))
+    (are : ArePlaces marks list (length marks)) where
   long : length list ≡ length old.nets
   long = are.size ∙ needed.size
 
@@ -30,10 +32,14 @@ module _ (old : Circuit) (runs : IsNetlist old) (emits : IsEmittable old) (marks
 
   pub moves : CanMove old kept list
   moves = record {
-    there = subst (All (λ (k : ℕ). k < length old.nets)) (sym kept-is-all) (all-from (λ (k : ℕ). k < length old.nets) (kept_of marks (length old.nets)) (λ i k is. (kept-is marks (length old.nets) i k is).0));
+    there = subst (All (λ (k : ℕ). k < length old.nets)) (sym kept-is-all)
+        (all-from (λ (k : ℕ). k < length old.nets) (kept_of marks (length old.nets))
+        (λ i k is. (kept-is marks (length old.nets) i k is).0));
     nets = all-from (λ (net : Net). All (λ (r : ℕ). r < length list) (reads net.kind)) old.nets (λ k net is. all-from (λ (r : ℕ). r < length list) (reads net.kind) (λ i r at.
         below r (all-at (λ (r : ℕ). r < length old.nets) (reads net.kind) (all-at (λ (n : Net). All (λ (r : ℕ). r < length old.nets) (reads n.kind)) old.nets runs.there k net is) i r at)));
-    inputs = all-from (λ (port : NetPort). port.net < length list) old.inputs (λ k port is. below port.net (let shown = runs.inputs k port is in slice_get_within old.nets port.net shown.net shown.is));
+    inputs = all-from (λ (port : NetPort). port.net < length list) old.inputs
+        (λ k port is. below port.net
+        (let shown = runs.inputs k port is in slice_get_within old.nets port.net shown.net shown.is));
     outputs = all-from (λ (port : NetPort). port.net < length list) old.outputs (λ k port is. below port.net (all-at (λ (p : NetPort). p.net < length old.nets) old.outputs runs.outputs k port is));
     labels = all-from (λ (label : NetLabel). label.net < length list) old.labels (λ k label is. below label.net (emits.labels.there label (stands old.labels k label is)));
   }
@@ -59,4 +65,7 @@ module _ (old : Circuit) (runs : IsNetlist old) (emits : IsEmittable old) (marks
 
   pub made-refines : RenumberedRuns → DropsRefine → RowsAreThere → RowsAreOne → (made : Circuit) → made ≡ renumbered old place kept → Refines old made
   made-refines law drop there one made e =
-      subst (Refines old) (sym (is made e)) (drop old (renumbered old place (kept_of marks (length old.nets))) place _ there one runs (law old place (kept_of marks (length old.nets)) stay runs) (drops old runs emits marks needed place counted))
+      subst (Refines old) (sym (is made e))
+      (drop old (renumbered old place (kept_of marks (length old.nets))) place _ there one runs
+      (law old place (kept_of marks (length old.nets)) stay runs)
+      (drops old runs emits marks needed place counted))

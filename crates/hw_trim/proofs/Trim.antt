@@ -1,5 +1,6 @@
 -- The netlist of what must stay stands in the place of the whole.
-use Rattle.std.proofs.Common.{◌≡◌, ℕ, zero, suc, ◌+◌, ◌<◌, ◌≤◌, List, [], ◌∷◌, ◌++◌, map, flat_map, length, All, Contains, Option, None, Some, IsSome, Bool, true, false, slice_get, slice_index, slice_index_or, append-nil, refl, ap, sym, ◌∙◌, subst, arith}
+use Rattle.std.proofs.Common.{◌≡◌, ℕ, zero, suc, ◌+◌, ◌<◌, ◌≤◌, List, [], ◌∷◌, ◌++◌, map, flat_map, length, All, Contains, Option, None, Some, IsSome, Bool, true, false, slice_get, slice_index}
+use Rattle.std.proofs.Common.{slice_index_or, append-nil, refl, ap, sym, ◌∙◌, subst, arith}
 use Rattle.std.specs.List.{AllZip}
 use Rattle.std.proofs.lemmas.Grind.{flat_map-append}
 use Rattle.std.proofs.lemmas.List.{map-append}
@@ -30,7 +31,9 @@ use Rattle.hw_trim.specs.inner.Marks.{IsNeeded, is_marked, multiplies}
 use Rattle.hw_trim.proofs.NoProducts.{no-unit, no-comb}
 use Rattle.hw_trim.proofs.MarkCounts.{kept-at, kept-is, kept-no, kept-yes}
 
-module _ (old : Circuit) (runs : IsNetlist old) (emits : IsEmittable old) (marks : List Bool) (needed : IsNeeded old marks) (place : ℕ → ℕ) (counted : (k : ℕ) → k < length old.nets → place k ≡ length (kept_of marks k)) where
+module _ (old : Circuit) (runs : IsNetlist old) (emits : IsEmittable old) (marks : List Bool)
+    (needed : IsNeeded old marks) (place : ℕ → ℕ)
+    (counted : (k : ℕ) → k < length old.nets → place k ≡ length (kept_of marks k)) where
   abbrev kept : List ℕ
   kept = kept_of marks (length old.nets)
 
@@ -63,7 +66,9 @@ module _ (old : Circuit) (runs : IsNetlist old) (emits : IsEmittable old) (marks
 
   reads-on : (b read : ℕ) → On b → Contains (reads (net_at old.nets b).kind) read → On read
   reads-on b read on c = (
-    all-in (λ (r : ℕ). r < length old.nets) (reads (net_at old.nets b).kind) (all-at (λ (n : Net). All (λ (r : ℕ). r < length old.nets) (reads n.kind)) old.nets runs.there b (net_at old.nets b) (net-there b on)) read c,
+    all-in (λ (r : ℕ). r < length old.nets) (reads (net_at old.nets b).kind)
+        (all-at (λ (n : Net). All (λ (r : ℕ). r < length old.nets) (reads n.kind)) old.nets runs.there b
+        (net_at old.nets b) (net-there b on)) read c,
     all-in (λ (r : ℕ). is_marked marks r ≡ true) (reads (net_at old.nets b).kind) (needed.served.each b (net_at old.nets b) (net-there b on) on.1).reads read c,
   )
 
@@ -128,7 +133,9 @@ module _ (old : Circuit) (runs : IsNetlist old) (emits : IsEmittable old) (marks
     labels_differ = λ i j d less within e.
         let one = stands old.labels i (slice_index_or old.labels i d) (slice_get-get_or old.labels i d (omega (arith, less, within))) in
         let two = stands old.labels j (slice_index_or old.labels j d) (slice_get-get_or old.labels j d within) in
-        emits.labels.nets_differ i j d less within (same-place (slice_index_or old.labels i d).net (slice_index_or old.labels j d).net (labels-on (slice_index_or old.labels i d) one) (labels-on (slice_index_or old.labels j d) two) e);
+        emits.labels.nets_differ i j d less within
+        (same-place (slice_index_or old.labels i d).net (slice_index_or old.labels j d).net
+        (labels-on (slice_index_or old.labels i d) one) (labels-on (slice_index_or old.labels j d) two) e);
     counters = frame-kept;
   }
 
@@ -163,12 +170,16 @@ module _ (old : Circuit) (runs : IsNetlist old) (emits : IsEmittable old) (marks
   held-until zero = omega arith
   held-until (suc n) = by (held-until n) (is_marked marks n) refl
     where
-      by : held_count (moved_nets old.nets place (kept_of marks n)) ≤ held_count (front n) → (b : Bool) → is_marked marks n ≡ b → held_count (moved_nets old.nets place (kept_of marks (suc n))) ≤ held_count (front (suc n))
+      by : held_count (moved_nets old.nets place (kept_of marks n)) ≤ held_count (front n) → (b : Bool)
+          → is_marked marks n ≡ b
+          → held_count (moved_nets old.nets place (kept_of marks (suc n))) ≤ held_count (front (suc n))
       by rest true marked =
           let more = front-more n in
           let own = held-moved place (net_at old.nets n).kind in
           let e : held_count (moved_nets old.nets place (kept_of marks (suc n))) ≡ held_count (moved_nets old.nets place (kept_of marks n)) + held (moved n).kind
-          = ap (λ (xs : List ℕ). held_count (map moved xs)) (kept-yes marks n marked) ∙ ap held_count (map-append moved (kept_of marks n) (n ∷ [])) ∙ held-append (map moved (kept_of marks n)) (moved n ∷ []) ∙ omega arith in
+          = ap (λ (xs : List ℕ). held_count (map moved xs)) (kept-yes marks n marked)
+          ∙ ap held_count (map-append moved (kept_of marks n) (n ∷ []))
+          ∙ held-append (map moved (kept_of marks n)) (moved n ∷ []) ∙ omega arith in
           omega (arith, rest, more, own, e)
       by rest false absent =
           let more = front-more n in
@@ -186,7 +197,8 @@ module _ (old : Circuit) (runs : IsNetlist old) (emits : IsEmittable old) (marks
   abbrev Both : Product → Product → Type 0
   Both was is = IsKept new place back was.left is.left × IsKept new place back was.right is.right
 
-  module _ (f : Net → List Product) (each : (k : ℕ) → On k → AllZip Both (f (net_at old.nets k)) (f (moved k))) (none : (k : ℕ) → k < length old.nets → is_marked marks k ≡ false → f (net_at old.nets k) ≡ []) where
+  module _ (f : Net → List Product) (each : (k : ℕ) → On k → AllZip Both (f (net_at old.nets k)) (f (moved k)))
+      (none : (k : ℕ) → k < length old.nets → is_marked marks k ≡ false → f (net_at old.nets k) ≡ []) where
     abbrev before : ℕ → List Product
     before n = flat_map (λ k. f (net_at old.nets k)) (places n)
 
@@ -201,13 +213,17 @@ module _ (old : Circuit) (runs : IsNetlist old) (emits : IsEmittable old) (marks
         by rest true marked =
             let a : before (suc n) ≡ before n ++ (f (net_at old.nets n) ++ []) = flat_map-append (λ (k : ℕ). f (net_at old.nets k)) (places n) (n ∷ []) in
             let b : after (suc n) ≡ after n ++ (f (moved n) ++ [])
-            = ap (λ (xs : List ℕ). flat_map f (map moved xs)) (kept-yes marks n marked) ∙ ap (flat_map f) (map-append moved (kept_of marks n) (n ∷ [])) ∙ flat_map-append f (map moved (kept_of marks n)) (moved n ∷ []) in
+            = ap (λ (xs : List ℕ). flat_map f (map moved xs)) (kept-yes marks n marked)
+            ∙ ap (flat_map f) (map-append moved (kept_of marks n) (n ∷ []))
+            ∙ flat_map-append f (map moved (kept_of marks n)) (moved n ∷ []) in
             let one = zip-append Both (f (net_at old.nets n)) (f (moved n)) [] [] (each n (omega (arith, low), marked)) tt in
             let both = zip-append Both (before n) (after n) (f (net_at old.nets n) ++ []) (f (moved n) ++ []) rest one in
             subst (λ (xs : List Product). AllZip Both xs (after (suc n))) (sym a) (subst (AllZip Both (before n ++ (f (net_at old.nets n) ++ []))) (sym b) both)
         by rest false absent =
             let a : before (suc n) ≡ before n
-            = flat_map-append (λ (k : ℕ). f (net_at old.nets k)) (places n) (n ∷ []) ∙ ap (λ (xs : List Product). before n ++ (xs ++ [])) (none n (omega (arith, low)) absent) ∙ append-nil (before n) in
+            = flat_map-append (λ (k : ℕ). f (net_at old.nets k)) (places n) (n ∷ [])
+            ∙ ap (λ (xs : List Product). before n ++ (xs ++ [])) (none n (omega (arith, low)) absent)
+            ∙ append-nil (before n) in
             let b : after (suc n) ≡ after n = ap (λ (xs : List ℕ). flat_map f (map moved xs)) (kept-no marks n absent) in
             subst (λ (xs : List Product). AllZip Both xs (after (suc n))) (sym a) (subst (AllZip Both (before n)) (sym b) rest)
 
@@ -220,10 +236,14 @@ module _ (old : Circuit) (runs : IsNetlist old) (emits : IsEmittable old) (marks
 
   factors : AllZip Both (products_of old) (products_of new)
   factors =
-      let units = zip-until units-in (λ k on. unit-zip place (IsKept new place back) (net_at old.nets k).width (net_at old.nets k).width (net_at old.nets k).kind (λ read c. kept-on read (reads-on k read on c)))
+      let units = zip-until units-in (λ k on. unit-zip place (IsKept new place back) (net_at old.nets k).width
+      (net_at old.nets k).width (net_at old.nets k).kind (λ read c. kept-on read (reads-on k read on c)))
       (λ k below absent. no-unit (net_at old.nets k).width (net_at old.nets k).kind (no-multiply k below absent)) (length old.nets) (omega arith) in
-      let combs = zip-until combs-in (λ k on. comb-zip place (IsKept new place back) (net_at old.nets k).width (net_at old.nets k).width old.nets old.cycles (length old.inputs) (net_at old.nets k).width (net_at old.nets k).signed (net_at old.nets k).kind
-      (all-at (λ (n : Net). IsKind old.nets old.cycles (length old.inputs) n.width n.signed n.kind) old.nets runs.kinds k (net_at old.nets k) (net-there k on)) (λ read c. kept-on read (reads-on k read on c)))
+      let combs = zip-until combs-in (λ k on. comb-zip place (IsKept new place back) (net_at old.nets k).width
+      (net_at old.nets k).width old.nets old.cycles (length old.inputs) (net_at old.nets k).width
+      (net_at old.nets k).signed (net_at old.nets k).kind
+      (all-at (λ (n : Net). IsKind old.nets old.cycles (length old.inputs) n.width n.signed n.kind) old.nets
+      runs.kinds k (net_at old.nets k) (net-there k on)) (λ read c. kept-on read (reads-on k read on c)))
       (λ k below absent. no-comb (net_at old.nets k).width (net_at old.nets k).kind (no-multiply k below absent)) (length old.nets) (omega arith) in
       subst (AllZip Both (products_of old)) (sym (products-are new)) (zip-append Both _ (flat_map units-in new.nets) _ (flat_map combs-in new.nets) units combs)
 
@@ -242,7 +262,9 @@ module _ (old : Circuit) (runs : IsNetlist old) (emits : IsEmittable old) (marks
         alone = λ k below read-here.
             let f = map_there moved kept k (net_at new.nets k) (slice_get-get_or new.nets k no_net below) in
             let s = stays k f.0 f.1 in
-            let here = subst (λ (xs : List ℕ). Contains xs (place from)) (reads-moved place (net_at old.nets f.0).kind) (subst (λ (n : Net). Contains (reads n.kind) (place from)) (sym f.2) read-here) in
+            let here = subst (λ (xs : List ℕ). Contains xs (place from))
+            (reads-moved place (net_at old.nets f.0).kind)
+            (subst (λ (n : Net). Contains (reads n.kind) (place from)) (sym f.2) read-here) in
             let m = from-map place (reads (net_at old.nets f.0).kind) (place from) here in
             let same : m.0 ≡ from = same-place m.0 from (reads-on f.0 m.0 s.0 m.1) from-on m.2 in
             let e : f.0 ≡ label.net = b.alone f.0 s.0.0 (subst (Contains (reads (net_at old.nets f.0).kind)) same m.1) in

@@ -32,7 +32,9 @@ use Rattle.vl_ast.specs.Header.{input_port, output_port}
 use Rattle.vl_replay.specs.Columns.{columns_of, column_of, highest, lowest}
 
 -- two lists that give the same at each place
-pub same-maps : {A B C : Type 0} (f : A → C) (g : B → C) (xs : List A) (ys : List B) → length xs ≡ length ys → ((k : ℕ) (x : A) (y : B) → slice_get xs k ≡ Some x → slice_get ys k ≡ Some y → f x ≡ g y) → map f xs ≡ map g ys
+pub same-maps : {A B C : Type 0} (f : A → C) (g : B → C) (xs : List A) (ys : List B) → length xs ≡ length ys
+    → ((k : ℕ) (x : A) (y : B) → slice_get xs k ≡ Some x → slice_get ys k ≡ Some y → f x ≡ g y)
+    → map f xs ≡ map g ys
 same-maps f g [] [] many each = refl
 same-maps f g [] (y ∷ ys) many each = absurd (omega (arith, many))
 same-maps f g (x ∷ xs) [] many each = absurd (omega (arith, many))
@@ -57,7 +59,10 @@ module _ {core : Module} {diagram : Diagram} {plan : Resolved} {timing : Timing}
   out_port e = output_port (output_data diagram plan timing e)
 
   -- the columns of its stimulus
-  pub columns-are : InputsAreListed → IsWired diagram → ((block : ℕ) (b : Block) → slice_get diagram.blocks block ≡ Some b → IsType ((attributes_of diagram).type_at block 1)) → columns_of (stimulus_ports core) ≡ input_columns diagram
+  pub columns-are : InputsAreListed → IsWired diagram
+      → ((block : ℕ) (b : Block) → slice_get diagram.blocks block ≡ Some b
+      → IsType ((attributes_of diagram).type_at block 1))
+      → columns_of (stimulus_ports core) ≡ input_columns diagram
   columns-are listed wired typed = same-maps column_of column_in (stimulus_ports core) (root_inputs diagram (attributes_of diagram)) (inputs-many carries) (λ k port root at there.
       let e = input-at carries k port at in
       let same : e.0.root ≡ root = same_Some e.0.root root (sym e.3 ∙ there) in
@@ -77,7 +82,9 @@ module _ {core : Module} {diagram : Diagram} {plan : Resolved} {timing : Timing}
   periods-are = same-maps step_of (λ (column : Column). column.period) (output_ports core) (output_columns diagram) outputs-count (λ k port column at there.
       let root = map_there column_in (root_outputs diagram (attributes_of diagram)) k column there in
       let e = output-of carries k root.0 root.1 in
-      let here : slice_get (output_ports core) k ≡ Some (out_port e.0) = ap (λ (ports : List Port). slice_get ports k) (outputs-are carries) ∙ there_map out_port (output_elements carries.names diagram) k e.0 e.1 in
+      let here : slice_get (output_ports core) k ≡ Some (out_port e.0) =
+      ap (λ (ports : List Port). slice_get ports k) (outputs-are carries)
+      ∙ there_map out_port (output_elements carries.names diagram) k e.0 e.1 in
       let same : port ≡ out_port e.0 = same_Some port (out_port e.0) (sym at ∙ here) in
       let step = (output-numbers carries e.0 (got-in (output_elements carries.names diagram) k e.0 e.1)).0 in
       ap step_of same ∙ ap (λ o. unwrap_or o 1) step ∙ ap step_in e.2 ∙ ap (λ (c : Column). c.period) root.2)

@@ -127,7 +127,9 @@ module _ (laws : Laws) {core : Module} {diagram : Diagram} {plan : Resolved} {ti
     valid = subst IsType (sym type-is) (laws.types diagram order e.root.block block.0 ordered block.1.block_is).0
 
     in-type : (t : ℕ) → t < rows.lines → InRange e.root.type (entry t)
-    in-type t below = subst (λ (x : FxType). InRange x (entry t)) (sym type-is) (laws.range diagram order stimulus rows.lines table ordered in-range solves e.root.block block.0 1 e.root.element t block.1 below)
+    in-type t below = subst (λ (x : FxType). InRange x (entry t)) (sym type-is)
+        (laws.range diagram order stimulus rows.lines table ordered in-range solves e.root.block block.0 1
+        e.root.element t block.1 below)
 
     -- between hits it has the entry of the last
     stays : (period : Option ℕ) → A.period_at e.root.block ≡ period → (t : ℕ) → t < rows.lines → entry (hit_at (unwrap_or period 1) t) ≡ entry t
@@ -144,7 +146,10 @@ module _ (laws : Laws) {core : Module} {diagram : Diagram} {plan : Resolved} {ti
     shown-at : (t : ℕ) → t < rows.lines → slice_get (lines t) place ≡ Some (entry t)
     shown-at t below =
         let numbers = output-numbers c e (place, there_within (output_elements c.names diagram) place e at, get_or_from_slice_get (output_elements c.names diagram) place e e at) in
-        let port-at : slice_get (output_ports core) place ≡ Some port = ap (λ (ports : List Port). slice_get ports place) (outputs-are c) ∙ there_map (λ e. output_port (output_data diagram plan timing e)) (output_elements c.names diagram) place e at in
+        let port-at : slice_get (output_ports core) place ≡ Some port =
+        ap (λ (ports : List Port). slice_get ports place) (outputs-are c)
+        ∙ there_map (λ e. output_port (output_data diagram plan timing e))
+        (output_elements c.names diagram) place e at in
         let told = s.shows plan.cycles (cycles-told c) place port port-at step declared numbers.0 numbers.1 t below in
         let low = hit-below step t in
         let last = last-is-hit step t (some-step laws.schedules scheduled e.root.block e.root.period period-is) in
@@ -152,7 +157,9 @@ module _ (laws : Laws) {core : Module} {diagram : Diagram} {plan : Resolved} {ti
         let split = three-times (hit_at step t) (latency_at timing.lat e.root.block) step plan.cycles in
         let clock : ℕ = hit_at step t * plan.cycles + declared in
         let until : clock < (hit_at step t + latency_at timing.lat e.root.block + step) * plan.cycles = omega (arith, split, ready) in
-        let bits = c.bits rows.lines window stimulus table s.rows run place e at (hit_at step t) (omega (arith, low, below)) last clock clock (omega arith) until (place-clock core window s.inputs all clock told.0) in
+        let bits = c.bits rows.lines window stimulus table s.rows run place e at (hit_at step t)
+        (omega (arith, low, below)) last clock clock (omega arith) until
+        (place-clock core window s.inputs all clock told.0) in
         told.1
         ∙ ap (λ (z : ℤ). Some z)
         (number-of-type e.root.type (s.rows (row_at window clock) e.name) (entry (hit_at step t)) valid (in-type (hit_at step t) (omega (arith, low, below))) bits

@@ -1,5 +1,6 @@
 -- A diagram that keeps the rules has an order of its blocks along the instant edges.
-use Rattle.std.proofs.Common.{◌≡◌, ℕ, zero, suc, ◌+◌, ◌<◌, ◌≤◌, ◌⊎◌, inl, inr, ⊎_elim, Bool, true, false, List, [], ◌∷◌, ◌++◌, length, map, get_or, Option, None, Some, refl, sym, ap, subst, ◌∙◌, arith}
+use Rattle.std.proofs.Common.{◌≡◌, ℕ, zero, suc, ◌+◌, ◌<◌, ◌≤◌, ◌⊎◌, inl, inr, ⊎_elim, Bool, true, false, List, [], ◌∷◌, ◌++◌, length, map, get_or, Option, None, Some, refl, sym, ap, subst, ◌∙◌}
+use Rattle.std.proofs.Common.{arith}
 use Rattle.std.specs.Prelude.{slice_get}
 use Rattle.std.proofs.lemmas.Bool.{cases_Bool, cases_eq, false≢true}
 use Rattle.std.proofs.lemmas.List.{length-append}
@@ -21,14 +22,18 @@ use Rattle.math_list.proofs.Places.{get_cases, get_left, get_some, map_there, pu
 -- ---- edges begin at blocks
 
 -- the control of an edge of controls
-enabling : (from : ℕ) (blocks : List Block) (k : ℕ) (edge : LatencyEdge) → slice_get (enable_edges_from from blocks) k ≡ Some edge → (place : ℕ) × (b : Block) × (slice_get blocks place ≡ Some b) × (b.enable ≡ Some edge.from)
+enabling : (from : ℕ) (blocks : List Block) (k : ℕ) (edge : LatencyEdge)
+    → slice_get (enable_edges_from from blocks) k ≡ Some edge
+    → (place : ℕ) × (b : Block) × (slice_get blocks place ≡ Some b) × (b.enable ≡ Some edge.from)
 enabling from [] k edge at = absurd (none-some edge at)
 enabling from (x ∷ blocks) k edge at = ⊎_elim
     (λ here. go (asks_ever (row_of x.kind).timing.asks) x.enable refl k here)
     (λ later. let more = enabling (suc from) blocks _ edge later.1 in (suc more.0, more.1, more.2, more.3))
     (get_cases (enable_edge from (asks_ever (row_of x.kind).timing.asks) x.enable) (enable_edges_from (suc from) blocks) k edge at)
   where
-    go : (a : Bool) (enable : Option ℕ) → x.enable ≡ enable → (j : ℕ) → slice_get (enable_edge from a enable) j ≡ Some edge → (place : ℕ) × (b : Block) × (slice_get (x ∷ blocks) place ≡ Some b) × (b.enable ≡ Some edge.from)
+    go : (a : Bool) (enable : Option ℕ) → x.enable ≡ enable → (j : ℕ)
+        → slice_get (enable_edge from a enable) j ≡ Some edge
+        → (place : ℕ) × (b : Block) × (slice_get (x ∷ blocks) place ≡ Some b) × (b.enable ≡ Some edge.from)
     go a None q j is = absurd (none-some edge is)
     go false (Some control) q j is = absurd (none-some edge is)
     go true (Some control) q (suc j) is = absurd (none-some edge is)
@@ -67,7 +72,8 @@ module _ (diagram : Diagram) (checked : IsChecked diagram) where
     abbrev AreAllIn : ℕ → ℕ → Type 0
     AreAllIn b many = (k : ℕ) (edge : LatencyEdge) → k < many → slice_get (latency_edges diagram) k ≡ Some edge → edge.to ≡ b → IsInstant diagram A edge → IsIn edge.from order
 
-    one-more : (b many : ℕ) (edge : LatencyEdge) → slice_get (latency_edges diagram) many ≡ Some edge → AreAllIn b many → (edge.to ≡ b → IsInstant diagram A edge → IsIn edge.from order) → AreAllIn b (suc many)
+    one-more : (b many : ℕ) (edge : LatencyEdge) → slice_get (latency_edges diagram) many ≡ Some edge
+        → AreAllIn b many → (edge.to ≡ b → IsInstant diagram A edge → IsIn edge.from order) → AreAllIn b (suc many)
     one-more b many edge at rest here k other below is to now = ⊎_elim
         (λ (same : k ≡ many).
         let e : ◌≡◌ {A = LatencyEdge} edge other = same_Some edge other (sym at ∙ ap (slice_get (latency_edges diagram)) (sym same) ∙ is) in
@@ -84,7 +90,9 @@ module _ (diagram : Diagram) (checked : IsChecked diagram) where
         by e.0 e.1 rest (cases_eq e.0.to b) (cases_Bool (is_instant diagram A e.0)) (in-or e.0.from order))
         (among b many (omega (arith, within)))
       where
-        by : (edge : LatencyEdge) → slice_get (latency_edges diagram) many ≡ Some edge → AreAllIn b many → (edge.to ≡ b) ⊎ (edge.to ≡ b → ⊥) → (is_instant diagram A edge ≡ true) ⊎ (is_instant diagram A edge ≡ false)
+        by : (edge : LatencyEdge) → slice_get (latency_edges diagram) many ≡ Some edge → AreAllIn b many
+            → (edge.to ≡ b) ⊎ (edge.to ≡ b → ⊥)
+            → (is_instant diagram A edge ≡ true) ⊎ (is_instant diagram A edge ≡ false)
             → IsIn edge.from order ⊎ (IsIn edge.from order → ⊥) → HasLeft b ⊎ AreAllIn b (suc many)
         by edge at rest to now (inl there) = inr (one-more b many edge at rest (λ _ _. there))
         by edge at rest (inr other) now (inr absent) = inr (one-more b many edge at rest (λ to _. absurd (other to)))
@@ -120,7 +128,9 @@ module _ (diagram : Diagram) (checked : IsChecked diagram) where
             (λ (differs : m ≡ b → ⊥). rest b (omega (arith, below, differs)) absent)
             (cases_eq m b)
 
-        by : ((b : ℕ) → b < m → (IsIn b order → ⊥) → HasLeft b) → IsIn m order ⊎ (IsIn m order → ⊥) → HasLeft m ⊎ ((a : ℕ) → LeadsNow diagram A a m → IsIn a order) → ((b : ℕ) × IsFree b) ⊎ ((b : ℕ) → b < suc m → (IsIn b order → ⊥) → HasLeft b)
+        by : ((b : ℕ) → b < m → (IsIn b order → ⊥) → HasLeft b) → IsIn m order ⊎ (IsIn m order → ⊥)
+            → HasLeft m ⊎ ((a : ℕ) → LeadsNow diagram A a m → IsIn a order)
+            → ((b : ℕ) × IsFree b) ⊎ ((b : ℕ) → b < suc m → (IsIn b order → ⊥) → HasLeft b)
         by rest (inl there) sources = inr (more rest (λ absent. absurd (absent there)))
         by rest (inr absent) (inl left) = inr (more rest (λ _. left))
         by rest (inr absent) (inr sources) = inl (m, (omega (arith, within), absent, sources))
@@ -187,7 +197,9 @@ module _ (diagram : Diagram) (checked : IsChecked diagram) where
       let longer = length-append order (free.0 ∷ []) in
       grow fuel (order ++ free.0 ∷ []) (begun-more order free.0 begun free.1) (omega (arith, size, longer)))
       (λ (stuck : (b : ℕ) → b < n → (IsIn b order → ⊥) → HasLeft order b). ⊎_elim
-      (λ (missing : (b : ℕ) × (b < n) × (IsIn b order → ⊥)). absurd (back diagram A checked.loops n (λ b. IsIn b order → ⊥) (λ b low left. let s = stuck b low left in (s.0, source-below s.0 b s.1, s.2, s.1))
+      (λ (missing : (b : ℕ) × (b < n) × (IsIn b order → ⊥)). absurd
+      (back diagram A checked.loops n (λ b. IsIn b order → ⊥)
+      (λ b low left. let s = stuck b low left in (s.0, source-below s.0 b s.1, s.2, s.1))
       n missing.0 [] (alone missing.0) (λ k from to p q. absurd (none-some to q)) (low missing.0 missing.1) missing.2 (omega arith)))
       (λ (all : (b : ℕ) → b < n → IsIn b order). (order, ends order begun all))
       (missing-or order n))
@@ -204,5 +216,11 @@ module _ (diagram : Diagram) (checked : IsChecked diagram) where
 
   pub some-order : (order : List ℕ) × IsOrdered diagram order
   some-order =
-      let found = grow n [] (record { inside = λ k x at. absurd (none-some x at); once = λ i j x p q. absurd (none-some x p); after = λ k place source at lead. absurd (none-some place at) }) (omega arith) in
+      let found = grow n [] (record {
+        inside = λ k x at. absurd (none-some x at);
+        once =
+            λ i j x p q. absurd (none-some x p);
+        after = λ k place source at lead. absurd (none-some place at);
+      })
+      (omega arith) in
       (found.0, record { checked = checked; ordered = found.1 })

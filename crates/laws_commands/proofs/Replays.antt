@@ -122,7 +122,8 @@ module _ (known : AreKnown) {model plan verilog : List ℕ} (generated : IsVeril
 
     same-numbers : (t : ℕ) → t < simulation.rows.lines → replay.table t ≡ simulation.lines t
     same-numbers t below =
-        lines_are numbers generated.written.so.carries (scheduled-of generated.design) order.1 simulation.rows (simulated-rows simulation).column_count fits simulation.shown.table solves replay.table sampled t below
+        lines_are numbers generated.written.so.carries (scheduled-of generated.design) order.1 simulation.rows
+        (simulated-rows simulation).column_count fits simulation.shown.table solves replay.table sampled t below
         ∙ ap (λ (d : Diagram). shown d simulation.shown.table t) (sym (same-diagram simulation))
         ∙ sym (simulation.shown.lines_are t below)
 
@@ -139,7 +140,9 @@ module _ (known : AreKnown) {model plan verilog : List ℕ} (generated : IsVeril
   pub replay-simulates : {stimulus told : List ℕ} → IsReplayOf verilog stimulus told → IsSimulationOf model stimulus told
   replay-simulates {stimulus} {told} replay =
       let rows = replayed-rows replay in
-      let some : SomeResponse diagram replay.rows = known.responds diagram order.0 replay.rows order.1 rows.column_count (rows-fit (input_columns diagram) (length (output_columns diagram)) stimulus replay.rows rows) in
+      let some : SomeResponse diagram replay.rows =
+      known.responds diagram order.0 replay.rows order.1 rows.column_count
+      (rows-fit (input_columns diagram) (length (output_columns diagram)) stimulus replay.rows rows) in
       let simulation : IsSimulationOf model stimulus (response (output_periods diagram) some.lines replay.rows.lines) = record {
         diagram = diagram;
         accepted = generated.design.accepted;

@@ -84,7 +84,9 @@ module _ (diagram : Diagram) (attributes : Attributes) (kept : KeepsLoop diagram
       here : (k : ℕ) → k < length (take (suc p) (h ∷ w)) → slice_get (h ∷ w) k ≡ Some (slice_index (take (suc p) (h ∷ w)) k)
       here k below = (get_take (suc p) (h ∷ w) k (slice_index (take (suc p) (h ∷ w)) k) (slice_get-get_or (take (suc p) (h ∷ w)) k 0 below)).1
 
-      next : (k : ℕ) → k < length (take (suc p) (h ∷ w)) → LeadsNow diagram attributes (slice_index (take (suc p) (h ∷ w)) k) (slice_index (take (suc p) (h ∷ w)) (suc k % length (take (suc p) (h ∷ w))))
+      next : (k : ℕ) → k < length (take (suc p) (h ∷ w))
+          → LeadsNow diagram attributes (slice_index (take (suc p) (h ∷ w)) k)
+          (slice_index (take (suc p) (h ∷ w)) (suc k % length (take (suc p) (h ∷ w))))
       next k below = ⊎_elim
           (λ (more : suc k < length (take (suc p) (h ∷ w))).
           let m : suc k % length (take (suc p) (h ∷ w)) ≡ suc k = mod-eq_of_lt more in

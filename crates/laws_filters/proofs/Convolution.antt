@@ -1,5 +1,6 @@
 -- The sum of a filter shows the convolution of its coefficients with its input.
-use Rattle.std.proofs.Common.{◌≡◌, ℕ, zero, suc, ◌+◌, ◌<◌, ◌≤◌, ◌^◌, Bool, true, false, cond, ℤ, pos, ◌+ℤ◌, ◌*ℤ◌, ◌≤ℤ◌, inl, inr, List, [], ◌∷◌, length, map, zip, Option, Some, None, slice_get, replicate, ◌==◌, ap, ap₂, sym, ◌∙◌, subst, refl, arith}
+use Rattle.std.proofs.Common.{◌≡◌, ℕ, zero, suc, ◌+◌, ◌<◌, ◌≤◌, ◌^◌, Bool, true, false, cond, ℤ, pos, ◌+ℤ◌, ◌*ℤ◌, ◌≤ℤ◌, inl, inr, List, [], ◌∷◌, length, map, zip, Option, Some, None, slice_get}
+use Rattle.std.proofs.Common.{replicate, ◌==◌, ap, ap₂, sym, ◌∙◌, subst, refl, arith}
 use Rattle.std.specs.Int.{int_gap}
 use Rattle.std.proofs.lemmas.List.{length-replicate}
 use Rattle.std.proofs.lemmas.Option.{MatchOption-at_some, same_Some, slice_get_within}
@@ -85,7 +86,9 @@ module _ (ranges : SolvedIsInRange) (identity : SameTypeIsIdentity) (storing : S
     ports place kind b is =
         subst (λ (k : Kind). HasPorts k b.inputs b.outputs) is.kind_is (held IsReadable diagram.blocks place b solved.ordered.checked.wired.blocks is.block_is).ports
 
-    shown_as : (place : ℕ) (kind : Kind) (b : Block) (element : ℕ) → IsKindAt diagram place kind b → 1 ≤ shown_ports kind b.outputs → element < shown_width diagram attributes kind place 1 → IsShown diagram attributes place b 1 element
+    shown_as : (place : ℕ) (kind : Kind) (b : Block) (element : ℕ) → IsKindAt diagram place kind b
+        → 1 ≤ shown_ports kind b.outputs → element < shown_width diagram attributes kind place 1
+        → IsShown diagram attributes place b 1 element
     shown_as place kind b element is some below = record {
       block_is = is.block_is;
       port_from = omega arith;
@@ -119,7 +122,9 @@ module _ (ranges : SolvedIsInRange) (identity : SameTypeIsIdentity) (storing : S
       abbrev place : ℕ
       place = product first taps k
 
-      gain : (b : Block) × IsKindAt diagram (product first taps k) (Gain (coefficient ∷ []) taps.param) b × (b.result ≡ Internal) × IsFed diagram (tap first k) (product first taps k) 1 × IsFed diagram (product first taps k) (sum_of first taps) (suc k)
+      gain : (b : Block) × IsKindAt diagram (product first taps k) (Gain (coefficient ∷ []) taps.param) b
+          × (b.result ≡ Internal) × IsFed diagram (tap first k) (product first taps k) 1
+          × IsFed diagram (product first taps k) (sum_of first taps) (suc k)
       gain = filter.products k coefficient there
 
       abbrev served : ℕ
@@ -137,7 +142,9 @@ module _ (ranges : SolvedIsInRange) (identity : SameTypeIsIdentity) (storing : S
       type_in : type_into diagram attributes (product first taps k) 1 ≡ attributes.type_at (tap first k) 1
       type_in = ap (λ (o : Option Edge). at_source o Logical attributes.type_at) gain.3
 
-      value_in : (t : ℕ) → value_into diagram attributes table (product first taps k) 1 (repeated (attributes.width_at (product first taps k) 1) element) t ≡ shown_to attributes table (tap first k) element t
+      value_in : (t : ℕ) → value_into diagram attributes table (product first taps k) 1
+          (repeated (attributes.width_at (product first taps k) 1) element) t
+          ≡ shown_to attributes table (tap first k) element t
       value_in t =
           let fed = ap (λ (o : Option Edge). at_source o (pos 0) (λ from from_port. table from from_port (repeated (attributes.width_at from from_port) served) t)) gain.3 in
           let own : attributes.width_at (tap first k) 1 ≡ attributes.width_at place 1 = fitting.alike.widths k inside ∙ sym (fitting.widths k inside) in
@@ -151,24 +158,38 @@ module _ (ranges : SolvedIsInRange) (identity : SameTypeIsIdentity) (storing : S
           (c : ℤ) × Stores coefficient (attributes.param_at (product first taps k)) c
           × (shown_to attributes table (product first taps k) element t ≡ shown_to attributes table (tap first k) element t *ℤ c)
 
-      by_types : (t : ℕ) → t < n → (types : List FxType) (values : List ℤ) → type_of types 0 ≡ attributes.type_at (tap first k) 1 → value_of values 0 ≡ shown_to attributes table (tap first k) element t → (c : ℤ) → Stores coefficient (attributes.param_at (product first taps k)) c
-          → (full : FxType) → IsFullProduct (type_of types 0) (attributes.param_at (product first taps k)) full → (v : ℤ) → Converts (value_of values 0 *ℤ c) full (attributes.type_at (product first taps k) 1) gain.0.rounding gain.0.saturate v
+      by_types : (t : ℕ) → t < n → (types : List FxType) (values : List ℤ)
+          → type_of types 0 ≡ attributes.type_at (tap first k) 1
+          → value_of values 0 ≡ shown_to attributes table (tap first k) element t → (c : ℤ)
+          → Stores coefficient (attributes.param_at (product first taps k)) c
+          → (full : FxType) → IsFullProduct (type_of types 0) (attributes.param_at (product first taps k)) full
+          → (v : ℤ) → Converts (value_of values 0 *ℤ c) full
+          (attributes.type_at (product first taps k) 1) gain.0.rounding gain.0.saturate v
           → v ≡ shown_to attributes table (tap first k) element t *ℤ c
       by_types t early types values type value c stored full is_full v converts =
           let x : ℤ = shown_to attributes table (tap first k) element t in
           let own : FxType = attributes.type_at place 1 in
-          let valid_tap = tap_shown k (repeated (attributes.width_at (tap first k) 1) element) inside (repeated_below (attributes.width_at (tap first k) 1) element (omega (arith, below, fitting.alike.widths k inside))) in
+          let valid_tap = tap_shown k (repeated (attributes.width_at (tap first k) 1) element) inside
+          (repeated_below (attributes.width_at (tap first k) 1) element
+          (omega (arith, below, fitting.alike.widths k inside))) in
           let type_a : IsType (attributes.type_at (tap first k) 1) = (valid diagram order (tap first k) valid_tap.0 solved.ordered valid_tap.1.block_is).0 in
           let type_b : IsType (attributes.param_at place) = (valid diagram order place gain.0 solved.ordered gain.1.block_is).1 in
           let type_own : IsType (attributes.type_at place 1) = (valid diagram order place gain.0 solved.ordered gain.1.block_is).0 in
           let fits = fitting.types k inside in
           let full_a : IsFullProduct (attributes.type_at (tap first k) 1) (attributes.param_at place) full = subst (λ (a : FxType). IsFullProduct a (attributes.param_at place) full) type is_full in
-          let same : full ≡ attributes.type_at place 1 = same_Some full (attributes.type_at place 1) (sym ((fulls (attributes.type_at (tap first k) 1) (attributes.param_at place) full).0 full_a) ∙ (fulls (attributes.type_at (tap first k) 1) (attributes.param_at place) (attributes.type_at place 1)).0 fits) in
+          let same : full ≡ attributes.type_at place 1 =
+          same_Some full (attributes.type_at place 1)
+          (sym ((fulls (attributes.type_at (tap first k) 1) (attributes.param_at place) full).0 full_a)
+          ∙ (fulls (attributes.type_at (tap first k) 1) (attributes.param_at place)
+          (attributes.type_at place 1)).0 fits) in
           let one = storing coefficient (attributes.param_at place) type_b in
           let in_c : InRange (attributes.param_at place) c = subst (InRange (attributes.param_at place)) (sym (one.only c stored)) one.in_range in
           let in_x : InRange (attributes.type_at (tap first k) 1) (shown_to attributes table (tap first k) element t) = tap_in_range k element t inside below early in
           let in_product : InRange (attributes.type_at place 1) (shown_to attributes table (tap first k) element t *ℤ c) =
-          word-range (attributes.type_at place 1) (shown_to attributes table (tap first k) element t *ℤ c) (product-in-word (attributes.type_at (tap first k) 1) (attributes.param_at place) (attributes.type_at place 1) (shown_to attributes table (tap first k) element t) c type_a type_b in_x in_c fits) in
+          word-range (attributes.type_at place 1) (shown_to attributes table (tap first k) element t *ℤ c)
+          (product-in-word (attributes.type_at (tap first k) 1) (attributes.param_at place)
+          (attributes.type_at place 1)
+          (shown_to attributes table (tap first k) element t) c type_a type_b in_x in_c fits) in
           let exact : Converts (shown_to attributes table (tap first k) element t *ℤ c) (attributes.type_at place 1) (attributes.type_at place 1) gain.0.rounding gain.0.saturate v =
           subst (λ (f : FxType). Converts (shown_to attributes table (tap first k) element t *ℤ c) f (attributes.type_at place 1) gain.0.rounding gain.0.saturate v) same
           (subst (λ (w : ℤ). Converts (w *ℤ c) full (attributes.type_at place 1) gain.0.rounding gain.0.saturate v) value converts) in
@@ -182,13 +203,36 @@ module _ (ranges : SolvedIsInRange) (identity : SameTypeIsIdentity) (storing : S
           subst (λ (kind : Kind). KindEquation diagram attributes stimulus table kind gain.0 place 1 served t (table place 1 served t)) gain.1.kind_is of in
           let is_op : IsOpOf (Gain (coefficient ∷ []) taps.param) served (attributes.param_at place) (type_into diagram attributes place 2) eq.0 =
           subst (λ (kind : Kind). IsOpOf kind served (attributes.param_at place) (type_into diagram attributes place 2) eq.0) gain.1.kind_is eq.1 in
-          let operation : Operation = record { op = eq.0; signs = signs_of gain.0.kind; types = types_into diagram attributes place gain.0.inputs; result = attributes.type_at place 1; rounding = gain.0.rounding; saturate = gain.0.saturate } in
-          let gives : Gives (OpGain is_op.0 (attributes.param_at place)) operation (types_into diagram attributes place gain.0.inputs) (values_into diagram attributes table place gain.0.inputs served t) (table place 1 served t) =
-          subst (λ (op : Op). Gives op operation (types_into diagram attributes place gain.0.inputs) (values_into diagram attributes table place gain.0.inputs served t) (table place 1 served t)) is_op.2 eq.2 in
+          let operation : Operation = record {
+            op = eq.0;
+            signs = signs_of gain.0.kind;
+            types =
+                types_into diagram attributes place gain.0.inputs;
+            result =
+                attributes.type_at place 1;
+            rounding = gain.0.rounding;
+            saturate = gain.0.saturate;
+          } in
+          let gives : Gives (OpGain is_op.0 (attributes.param_at place)) operation
+          (types_into diagram attributes place gain.0.inputs)
+          (values_into diagram attributes table place gain.0.inputs served t) (table place 1 served t) =
+          subst (λ (op : Op). Gives op operation (types_into diagram attributes place gain.0.inputs)
+          (values_into diagram attributes table place gain.0.inputs served t) (table place 1 served t)) is_op.2
+          eq.2 in
           let one : gain.0.inputs ≡ 1 = gain_ports.0 in
-          let type : type_of (types_into diagram attributes place gain.0.inputs) 0 ≡ attributes.type_at (tap first k) 1 = ap (λ (m : ℕ). type_of (types_into diagram attributes place m) 0) one ∙ type_in in
-          let value : value_of (values_into diagram attributes table place gain.0.inputs served t) 0 ≡ shown_to attributes table (tap first k) element t = ap (λ (m : ℕ). value_of (values_into diagram attributes table place m served t) 0) one ∙ value_in t in
-          (is_op.0, is_op.1, by_types t early (types_into diagram attributes place gain.0.inputs) (values_into diagram attributes table place gain.0.inputs served t) type value is_op.0 is_op.1 gives.0 gives.1 (table place 1 served t) gives.2)
+          let type : type_of (types_into diagram attributes place gain.0.inputs) 0
+          ≡ attributes.type_at (tap first k) 1 =
+          ap (λ (m : ℕ). type_of (types_into diagram attributes place m) 0) one ∙ type_in in
+          let value : value_of (values_into diagram attributes table place gain.0.inputs served t) 0
+          ≡ shown_to attributes table (tap first k) element t =
+          ap (λ (m : ℕ). value_of (values_into diagram attributes table place m served t) 0) one
+          ∙ value_in t in (
+            is_op.0,
+            is_op.1,
+            by_types t early (types_into diagram attributes place gain.0.inputs)
+                (values_into diagram attributes table place gain.0.inputs served t) type value is_op.0 is_op.1 gives.0
+                gives.1 (table place 1 served t) gives.2,
+          )
 
       -- where its value never changes
       stays : (t : ℕ) → suc t < n → attributes.period_at (product first taps k) ≡ None → attributes.period_at (tap first k) ≡ None → Multiplies (suc t)
@@ -197,9 +241,13 @@ module _ (ranges : SolvedIsInRange) (identity : SameTypeIsIdentity) (storing : S
           let apart : ¬ (suc t ≡ 0) = λ e. absurd (omega (arith, e)) in
           let product_off : ¬ Hits (attributes.period_at (product first taps k)) (suc t) = subst (λ (p : Option ℕ). ¬ Hits p (suc t)) (sym own) apart in
           let tap_off : ¬ Hits (attributes.period_at (tap first k)) (suc t) = subst (λ (p : Option ℕ). ¬ Hits p (suc t)) (sym source) apart in
-          let product_stays : table place 1 served (suc t) ≡ table place 1 served 0 = solved.solves.between_hits place gain.0 1 served (suc t) gain_shown early product_off ∙ ap (λ (p : Option ℕ). table place 1 served (last_hit p (suc t))) own in
+          let product_stays : table place 1 served (suc t) ≡ table place 1 served 0 =
+          solved.solves.between_hits place gain.0 1 served (suc t) gain_shown early product_off
+          ∙ ap (λ (p : Option ℕ). table place 1 served (last_hit p (suc t))) own in
           let w : ℕ = repeated (attributes.width_at (tap first k) 1) element in
-          let shown = tap_shown k (repeated (attributes.width_at (tap first k) 1) element) inside (repeated_below (attributes.width_at (tap first k) 1) element (omega (arith, below, fitting.alike.widths k inside))) in
+          let shown = tap_shown k (repeated (attributes.width_at (tap first k) 1) element) inside
+          (repeated_below (attributes.width_at (tap first k) 1) element
+          (omega (arith, below, fitting.alike.widths k inside))) in
           let tap_stays : table (tap first k) 1 (repeated (attributes.width_at (tap first k) 1) element) (suc t) ≡ table (tap first k) 1 (repeated (attributes.width_at (tap first k) 1) element) 0 =
           solved.solves.between_hits (tap first k) shown.0 1 w (suc t) shown.1 early tap_off ∙ ap (λ (p : Option ℕ). table (tap first k) 1 w (last_hit p (suc t))) source in
           (base.0, base.1, product_stays ∙ base.2 ∙ sym (ap (λ (x : ℤ). x *ℤ base.0) tap_stays))
@@ -229,7 +277,16 @@ module _ (ranges : SolvedIsInRange) (identity : SameTypeIsIdentity) (storing : S
       abbrev values_from : ℕ → ℕ → List ℤ
       values_from from many = map (λ port. value_into diagram (attributes_of diagram) table (sum_of first taps) port element t) (numbers_from from many)
 
-      summed : Gives (OpSum None) (record { op = OpSum None; signs = signs; types = types_from 1 count; result = attributes.type_at last 1; rounding = sum.rounding; saturate = sum.saturate }) (types_from 1 count) (values_from 1 count) (table (sum_of first taps) 1 element t)
+      summed : Gives (OpSum None) (record {
+        op = OpSum None;
+        signs = signs;
+        types = types_from 1 count;
+        result =
+            attributes.type_at last 1;
+        rounding = sum.rounding;
+        saturate = sum.saturate;
+      }) (types_from 1 count)
+          (values_from 1 count) (table (sum_of first taps) 1 element t)
       summed =
           let has = ports last (Sum signs Internal) sum filter.total in
           let outputs : sum.outputs ≡ 1 = has.1 in
@@ -241,12 +298,58 @@ module _ (ranges : SolvedIsInRange) (identity : SameTypeIsIdentity) (storing : S
           subst (λ (kind : Kind). KindEquation diagram attributes stimulus table kind sum last 1 element t (table last 1 element t)) filter.total.kind_is of in
           let is_op : eq.0 ≡ OpSum None = subst (λ (kind : Kind). IsOpOf kind element (attributes.param_at last) (type_into diagram attributes last 2) eq.0) filter.total.kind_is eq.1 in
           let by_op : (op : Op) → op ≡ OpSum None → (own_signs : List Bool) → own_signs ≡ signs → (many : ℕ) → many ≡ count
-          → Gives op (record { op = op; signs = own_signs; types = types_from 1 many; result = attributes.type_at last 1; rounding = sum.rounding; saturate = sum.saturate }) (types_from 1 many) (values_from 1 many) (table last 1 element t)
-          → Gives (OpSum None) (record { op = OpSum None; signs = signs; types = types_from 1 count; result = attributes.type_at last 1; rounding = sum.rounding; saturate = sum.saturate }) (types_from 1 count) (values_from 1 count) (table last 1 element t) =
+          → Gives op (record {
+            op = op;
+            signs = own_signs;
+            types = types_from 1 many;
+            result =
+                attributes.type_at last 1;
+            rounding = sum.rounding;
+            saturate = sum.saturate;
+          }) (types_from 1 many)
+          (values_from 1 many) (table last 1 element t)
+          → Gives (OpSum None) (record {
+            op = OpSum None;
+            signs = signs;
+            types = types_from 1 count;
+            result =
+                attributes.type_at last 1;
+            rounding = sum.rounding;
+            saturate = sum.saturate;
+          }) (types_from 1 count)
+          (values_from 1 count) (table last 1 element t) =
           λ op op_is own_signs signs_are many many_is given.
-          subst (λ (o : Op). Gives o (record { op = o; signs = signs; types = types_from 1 count; result = attributes.type_at last 1; rounding = sum.rounding; saturate = sum.saturate }) (types_from 1 count) (values_from 1 count) (table last 1 element t)) op_is
-          (subst (λ (l : List Bool). Gives op (record { op = op; signs = l; types = types_from 1 count; result = attributes.type_at last 1; rounding = sum.rounding; saturate = sum.saturate }) (types_from 1 count) (values_from 1 count) (table last 1 element t)) signs_are
-          (subst (λ (m : ℕ). Gives op (record { op = op; signs = own_signs; types = types_from 1 m; result = attributes.type_at last 1; rounding = sum.rounding; saturate = sum.saturate }) (types_from 1 m) (values_from 1 m) (table last 1 element t)) many_is given)) in
+          subst (λ (o : Op). Gives o (record {
+            op = o;
+            signs = signs;
+            types = types_from 1 count;
+            result =
+                attributes.type_at last 1;
+            rounding = sum.rounding;
+            saturate = sum.saturate;
+          }) (types_from 1 count)
+          (values_from 1 count) (table last 1 element t)) op_is
+          (subst (λ (l : List Bool). Gives op
+          (record {
+            op = op;
+            signs = l;
+            types = types_from 1 count;
+            result =
+                attributes.type_at last 1;
+            rounding = sum.rounding;
+            saturate = sum.saturate;
+          })
+          (types_from 1 count) (values_from 1 count) (table last 1 element t)) signs_are
+          (subst (λ (m : ℕ). Gives op (record {
+            op = op;
+            signs = own_signs;
+            types = types_from 1 m;
+            result =
+                attributes.type_at last 1;
+            rounding = sum.rounding;
+            saturate = sum.saturate;
+          }) (types_from 1 m)
+          (values_from 1 m) (table last 1 element t)) many_is given)) in
           by_op eq.0 is_op (signs_of sum.kind) (ap signs_of filter.total.kind_is) sum.inputs inputs eq.2
 
       -- the entry of each product is a term
@@ -258,7 +361,9 @@ module _ (ranges : SolvedIsInRange) (identity : SameTypeIsIdentity) (storing : S
       value_of_term : (k : ℕ) → k < count → value_into diagram attributes table last (suc k) element t ≡ shown_to attributes table (product first taps k) element t
       value_of_term k inside =
           let coefficient = get_some taps.coefficients k inside in
-          ap (λ (o : Option Edge). at_source o (pos 0) (λ from from_port. table from from_port (repeated (attributes.width_at from from_port) element) t)) (filter.products k coefficient.0 coefficient.1).4
+          ap (λ (o : Option Edge). at_source o (pos 0)
+          (λ from from_port. table from from_port (repeated (attributes.width_at from from_port) element) t))
+          (filter.products k coefficient.0 coefficient.1).4
 
       -- these and those behind come to the sum of their products
       convolved : (frac : ℤ) (coefficients : List Decimal) (k : ℕ) → ((j : ℕ) (c : Decimal) → slice_get coefficients j ≡ Some c → slice_get taps.coefficients (k + j) ≡ Some c)
@@ -281,7 +386,9 @@ module _ (ranges : SolvedIsInRange) (identity : SameTypeIsIdentity) (storing : S
             own,
             m.1,
             more,
-            ap₂ (λ (type : FxType) (v : ℤ). (v *ℤ pos (2 ^ int_gap (frac_of type) frac)) +ℤ signed_sum frac (zip (replicate (length coefficients) false) (types_from (suc (suc k)) (length coefficients))) (values_from (suc (suc k)) (length coefficients)))
+            ap₂ (λ (type : FxType) (v : ℤ). (v *ℤ pos (2 ^ int_gap (frac_of type) frac)) +ℤ signed_sum frac
+                (zip (replicate (length coefficients) false) (types_from (suc (suc k)) (length coefficients)))
+                (values_from (suc (suc k)) (length coefficients)))
                 (type_of_term k inside) (value_of_term k inside ∙ m.2),
           )
 
@@ -292,11 +399,16 @@ module _ (ranges : SolvedIsInRange) (identity : SameTypeIsIdentity) (storing : S
             frac = frac_of summed.0;
             total = signed_sum (frac_of summed.0) (zip signs (types_from 1 count)) (values_from 1 count);
             exact = λ k inside.
-                let term = held (λ (term : Bool × FxType). frac_of term.1 ≤ℤ frac_of summed.0) (zip signs (types_from 1 count)) k (false, type_into diagram attributes last (1 + k)) summed.1.frac.bound (term_at (type_into diagram attributes last) 1 count k inside) in
+                let term = held (λ (term : Bool × FxType). frac_of term.1 ≤ℤ frac_of summed.0)
+                (zip signs (types_from 1 count)) k
+                (false, type_into diagram attributes last (1 + k)) summed.1.frac.bound
+                (term_at (type_into diagram attributes last) 1 count k inside) in
                 let next : 1 + k ≡ suc k = omega arith in
                 subst (λ (type : FxType). frac_of type ≤ℤ frac_of summed.0) (ap (type_into diagram attributes last) next ∙ type_of_term k inside) term;
             convolved = convolved (frac_of summed.0) taps.coefficients 0 (λ j c at. let same : 0 + j ≡ j = omega arith in ap (slice_get taps.coefficients) same ∙ at);
-            converted = λ from same. converts_from (signed_sum (frac_of summed.0) (zip signs (types_from 1 count)) (values_from 1 count)) summed.0 from (attributes.type_at last 1) sum.rounding sum.saturate (table last 1 element t) same summed.2;
+            converted = λ from same. converts_from
+                (signed_sum (frac_of summed.0) (zip signs (types_from 1 count)) (values_from 1 count)) summed.0 from
+                (attributes.type_at last 1) sum.rounding sum.saturate (table last 1 element t) same summed.2;
           }
 
 pub fitting_convolve : SolvedIsInRange → SameTypeIsIdentity → StoringGivesOne → TypesAreValid → FullProductIsOne → TapsAreHeld → FittingConvolve

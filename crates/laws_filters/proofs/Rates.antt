@@ -1,5 +1,6 @@
 -- The delays and the products of a filter run with its sum.
-use Rattle.std.proofs.Common.{◌≡◌, ℕ, zero, suc, ◌<◌, ◌⊎◌, Bool, true, false, true≢false, not, cond, inl, inr, List, [], ◌∷◌, length, find, Option, Some, None, slice_get, replicate, ap, sym, ◌∙◌, subst, refl, arith, eqb-true}
+use Rattle.std.proofs.Common.{◌≡◌, ℕ, zero, suc, ◌<◌, ◌⊎◌, Bool, true, false, true≢false, not, cond, inl, inr, List, [], ◌∷◌, length, find, Option, Some, None, slice_get, replicate, ap, sym, ◌∙◌}
+use Rattle.std.proofs.Common.{subst, refl, arith, eqb-true}
 use Rattle.std.proofs.lemmas.List.{length-replicate}
 use Rattle.std.proofs.lemmas.Bool.{not-false}
 use Rattle.std.proofs.lemmas.Option.{same_Some}
@@ -21,7 +22,9 @@ use Rattle.dg_tables.proofs.Edges.{edge_at}
 use Rattle.hw_sched.specs.Laws.{MovingHavePeriods, is_moving}
 
 -- what a search that finds none passes over
-passed_by : {A : Type 0} (test : A → Bool) (first : A) (xs : List A) → ((k : ℕ) (x : A) → find test xs ≡ None → slice_get xs k ≡ Some x → test x ≡ false) → (b : Bool) → test first ≡ b → cond b (Some first) (find test xs) ≡ None
+passed_by : {A : Type 0} (test : A → Bool) (first : A) (xs : List A)
+    → ((k : ℕ) (x : A) → find test xs ≡ None → slice_get xs k ≡ Some x → test x ≡ false) → (b : Bool)
+    → test first ≡ b → cond b (Some first) (find test xs) ≡ None
     → (k : ℕ) (x : A) → slice_get (first ∷ xs) k ≡ Some x → test x ≡ false
 passed_by {A} test first xs again true is none k x at = let bad : ◌≡◌ {A = Option A} (Some first) None = none in absurd (cc)
 passed_by test first xs again false is none zero x at = ap test (sym (same_Some first x at)) ∙ is
@@ -55,17 +58,22 @@ module _ (diagram : Diagram) (checked : IsChecked diagram) where
   asked_there place b (Some own) i from at = get_left (drivers_of diagram place) (control_of b) i from at
 
   -- the source of an input suits a block that doesn't join two periods
-  suits_at : (place : ℕ) (kind : Kind) (b : Block) → IsKindAt diagram place kind b → joins_periods (row_of kind).timing.reads ≡ false → (i : ℕ) → i < b.inputs → (edge : Edge) → driver_of diagram place (suc i) ≡ Some edge
+  suits_at : (place : ℕ) (kind : Kind) (b : Block) → IsKindAt diagram place kind b
+      → joins_periods (row_of kind).timing.reads ≡ false → (i : ℕ) → i < b.inputs → (edge : Edge)
+      → driver_of diagram place (suc i) ≡ Some edge
       → suits false (period_at (periods_of diagram) place) (period_at (periods_of diagram) edge.from) ≡ true
   suits_at place kind b is joins i below edge driver =
       let own = edge_at diagram checked.wired place b is.block_is i below in
       let same : own.0 ≡ edge = same_Some own.0 edge (sym own.2 ∙ driver) in
       let listed : slice_get (drivers_of diagram place) i ≡ Some edge.from = there_map (λ (e : Edge). e.from) (edges_into diagram place) i own.0 own.1 ∙ ap (λ (e : Edge). Some e.from) same in
       let asked = asked_there place b (period_at (periods_of diagram) place) i edge.from listed in
-      let test = passed (λ source. not (suits (joins_periods (row_of b.kind).timing.reads) (period_at (periods_of diagram) place) (period_at (periods_of diagram) source))) (asked_of diagram (period_at (periods_of diagram) place) place b) i edge.from
+      let test = passed (λ source. not (suits (joins_periods (row_of b.kind).timing.reads)
+      (period_at (periods_of diagram) place) (period_at (periods_of diagram) source)))
+      (asked_of diagram (period_at (periods_of diagram) place) place b) i edge.from
       (checked.rates.periods place b is.block_is) asked in
       let suited = not-false (suits (joins_periods (row_of b.kind).timing.reads) (period_at (periods_of diagram) place) (period_at (periods_of diagram) edge.from)) test in
-      subst (λ (j : Bool). suits j (period_at (periods_of diagram) place) (period_at (periods_of diagram) edge.from) ≡ true) (ap (λ (k : Kind). joins_periods (row_of k).timing.reads) is.kind_is ∙ joins) suited
+      subst (λ (j : Bool). suits j (period_at (periods_of diagram) place) (period_at (periods_of diagram) edge.from)
+      ≡ true) (ap (λ (k : Kind). joins_periods (row_of k).timing.reads) is.kind_is ∙ joins) suited
 
   -- ---- a filter
 
@@ -94,7 +102,9 @@ module _ (diagram : Diagram) (checked : IsChecked diagram) where
     delays_together zero inside = refl
     delays_together (suc k) inside =
         let before = delay_moves k (omega (arith, inside)) in
-        let suited : suits false (period (tap first (suc (suc k)))) (Some before.0) ≡ true = subst (λ (p : Period). suits false (period (tap first (suc (suc k)))) p ≡ true) before.1 (delay_suits (suc k) inside) in
+        let suited : suits false (period (tap first (suc (suc k)))) (Some before.0) ≡ true =
+        subst (λ (p : Period). suits false (period (tap first (suc (suc k)))) p ≡ true) before.1
+        (delay_suits (suc k) inside) in
         own_is (period (tap first (suc (suc k)))) before.0 suited ∙ sym before.1 ∙ delays_together k (omega (arith, inside))
 
     product_suits : (k : ℕ) → k < count → suits false (period (product first taps k)) (period (tap first k)) ≡ true
@@ -131,6 +141,8 @@ module _ (diagram : Diagram) (checked : IsChecked diagram) where
     pub products_together : (k : ℕ) → k < count → (period (product first taps k) ≡ period (sum_of first taps)) ⊎ ((period (product first taps k) ≡ None) × (period (tap first k) ≡ None))
     products_together k inside = by (period (product first taps k)) refl
       where
-        by : (own : Period) → period (product first taps k) ≡ own → (period (product first taps k) ≡ period (sum_of first taps)) ⊎ ((period (product first taps k) ≡ None) × (period (tap first k) ≡ None))
+        by : (own : Period) → period (product first taps k) ≡ own
+            → (period (product first taps k) ≡ period (sum_of first taps))
+            ⊎ ((period (product first taps k) ≡ None) × (period (tap first k) ≡ None))
         by None is = inr (is, source_is (period (tap first k)) (subst (λ (p : Period). suits false p (period (tap first k)) ≡ true) is (product_suits k inside)))
         by (Some own) is = inl (is ∙ sym (sum_moves k own inside is))

@@ -64,7 +64,9 @@ module _ (diagram : Diagram) (checked : IsChecked diagram) where
 
   -- ---- a Gain of the internal rule
 
-  module _ (place from : ℕ) (value : List Decimal) (param : TypeSpec) (b : Block) (is : IsKindAt diagram place (Gain value param) b) (internal : b.result ≡ Internal) (fed : IsFed diagram from place 1) (source : from < length diagram.blocks) where
+  module _ (place from : ℕ) (value : List Decimal) (param : TypeSpec) (b : Block)
+      (is : IsKindAt diagram place (Gain value param) b) (internal : b.result ≡ Internal)
+      (fed : IsFed diagram from place 1) (source : from < length diagram.blocks) where
     one_input : b.inputs ≡ 1
     one_input = (ports place (Gain value param) b is).0
 
@@ -93,14 +95,18 @@ module _ (diagram : Diagram) (checked : IsChecked diagram) where
 
     full_after : (rounds : ℕ) (type : FxType) → after rounds place ≡ Some type → full_of (after rounds from) ≡ Some type
     full_after zero type known =
-        let start : after 0 place ≡ None = get_or_from_slice_get (types_after diagram 0) place (explicit_type b.result) None (there_map (λ (block : Block). explicit_type block.result) diagram.blocks place b is.block_is) ∙ ap explicit_type internal in
+        let start : after 0 place ≡ None = get_or_from_slice_get (types_after diagram 0) place
+        (explicit_type b.result) None (there_map
+        (λ (block : Block). explicit_type block.result) diagram.blocks place b is.block_is)
+        ∙ ap explicit_type internal in
         absurd (none-some type (sym start ∙ known))
     full_after (suc rounds) type known =
         let below = slice_get_within diagram.blocks place b is.block_is in
         by (after rounds place) (full_after rounds)
         (ap (λ (o : Option FxType). known_or (after rounds place) o) (sym (next_is (types_after diagram rounds))) ∙ sym (after_next rounds place below) ∙ known)
       where
-        by : (own : Option FxType) → ((type : FxType) → own ≡ Some type → full_of (after rounds from) ≡ Some type) → known_or own (full_of (after rounds from)) ≡ Some type → full_of (after (suc rounds) from) ≡ Some type
+        by : (own : Option FxType) → ((type : FxType) → own ≡ Some type → full_of (after rounds from) ≡ Some type)
+            → known_or own (full_of (after rounds from)) ≡ Some type → full_of (after (suc rounds) from) ≡ Some type
         by None again is = full_stays rounds type is
         by (Some other) again is = full_stays rounds type (again type is)
 
@@ -108,7 +114,9 @@ module _ (diagram : Diagram) (checked : IsChecked diagram) where
         → IsFullProduct ((attributes_of diagram).type_at from 1) ((attributes_of diagram).param_at place) ((attributes_of diagram).type_at place 1)
     gain_full fulls some =
         let own = known_is (known_at (types_of diagram) place) ((checked.types.known place b is.block_is).outputs some) in
-        let input = known_first (known_at (types_of diagram) from) (λ type. with_known (param_type_of value param type) (full_product_of type)) own.0 (full_after (length diagram.blocks) own.0 own.1) in
+        let input = known_first (known_at (types_of diagram) from)
+        (λ type. with_known (param_type_of value param type) (full_product_of type)) own.0
+        (full_after (length diagram.blocks) own.0 own.1) in
         let coefficient = known_first (param_type_of value param input.0) (full_product_of input.0) own.0 input.2 in
         let param_is : param_type_at diagram (types_of diagram) place ≡ Some coefficient.0 =
         ap (λ (o : Option Block). with_known o (λ block. coefficient_type (row_of block.kind).types.full (known_at (input_types diagram (types_of diagram) place) 0))) is.block_is
@@ -121,7 +129,9 @@ module _ (diagram : Diagram) (checked : IsChecked diagram) where
 
   -- ---- a filter
 
-  module _ (order : List ℕ) (ordered : IsOrdered diagram order) (fit : SignalsFit) (fulls : FullProductIsOne) (first : ℕ) (taps : Taps) (sum : Block) (enable : Option ℕ) (reset : Bool) (filter : IsFilter diagram first taps sum enable reset) where
+  module _ (order : List ℕ) (ordered : IsOrdered diagram order) (fit : SignalsFit) (fulls : FullProductIsOne)
+      (first : ℕ) (taps : Taps) (sum : Block) (enable : Option ℕ) (reset : Bool)
+      (filter : IsFilter diagram first taps sum enable reset) where
     abbrev count : ℕ
     count = length taps.coefficients
 
@@ -131,8 +141,12 @@ module _ (diagram : Diagram) (checked : IsChecked diagram) where
         let value = get_some taps.initial k (omega (arith, inside, filter.values)) in
         let delay = filter.delays k value.0 value.1 in
         let keeps : KeepsType diagram (attributes_of diagram) (tap first (suc k)) (Delay 1 (value.0 ∷ []) reset) delay.0.inputs delay.0.outputs =
-        subst (λ (kind : Kind). KeepsType diagram (attributes_of diagram) (tap first (suc k)) kind delay.0.inputs delay.0.outputs) delay.1.kind_is (fit diagram order (tap first (suc k)) delay.0 ordered delay.1.block_is).2 in
-        let into : type_into diagram (attributes_of diagram) (tap first (suc k)) 1 ≡ (attributes_of diagram).type_at (tap first k) 1 = ap (λ (o : Option Edge). at_source o Logical (attributes_of diagram).type_at) delay.3 in
+        subst (λ (kind : Kind). KeepsType diagram (attributes_of diagram)
+        (tap first (suc k)) kind delay.0.inputs delay.0.outputs) delay.1.kind_is
+        (fit diagram order (tap first (suc k)) delay.0 ordered delay.1.block_is).2 in
+        let into : type_into diagram (attributes_of diagram) (tap first (suc k)) 1
+        ≡ (attributes_of diagram).type_at (tap first k) 1 =
+        ap (λ (o : Option Edge). at_source o Logical (attributes_of diagram).type_at) delay.3 in
         sym keeps ∙ into ∙ delays_typed k (omega (arith, inside))
 
     tap_within : (k : ℕ) → k < count → tap first k < length diagram.blocks
@@ -145,7 +159,10 @@ module _ (diagram : Diagram) (checked : IsChecked diagram) where
         let delay = filter.delays k value.0 value.1 in
         slice_get_within diagram.blocks (tap first (suc k)) delay.0 delay.1.block_is
 
-    pub products_full : (k : ℕ) → k < count → IsFullProduct ((attributes_of diagram).type_at (tap first k) 1) ((attributes_of diagram).param_at (product first taps k)) ((attributes_of diagram).type_at (product first taps k) 1)
+    pub products_full : (k : ℕ) → k < count
+        → IsFullProduct ((attributes_of diagram).type_at (tap first k) 1)
+        ((attributes_of diagram).param_at (product first taps k))
+        ((attributes_of diagram).type_at (product first taps k) 1)
     products_full k inside =
         let coefficient = get_some taps.coefficients k inside in
         let gain = filter.products k coefficient.0 coefficient.1 in

@@ -47,7 +47,9 @@ module _ (diagram : Diagram) (checked : IsChecked diagram) where
   ports place kind b is = subst (λ (k : Kind). HasPorts k b.inputs b.outputs) is.kind_is (held IsReadable diagram.blocks place b checked.wired.blocks is.block_is).ports
 
   rounds_long : (rounds : ℕ) → length (widths_after diagram rounds) ≡ length diagram.blocks
-  rounds_long rounds = length_after (next_widths diagram) rounds (first_widths diagram) ∙ length-map diagram.blocks (λ (block : Block). first_of (row_of block.kind).signal.shape (row_of block.kind).signal.width)
+  rounds_long rounds = length_after (next_widths diagram) rounds (first_widths diagram)
+      ∙ length-map diagram.blocks
+      (λ (block : Block). first_of (row_of block.kind).signal.shape (row_of block.kind).signal.width)
 
   -- what a block that works element by element takes
   abbrev taken_by : Kind → ℕ → List ℕ → ℕ
@@ -60,11 +62,16 @@ module _ (diagram : Diagram) (checked : IsChecked diagram) where
       ∙ ap (λ (k : Kind). map (min most_width) (taken (row_of k).signal.shape (list_length k) (width_at widths place 1) (input_widths diagram widths place))) is.kind_is
       ∙ ap (λ (s : Shape). map (min most_width) (taken s (list_length kind) (width_at widths place 1) (input_widths diagram widths place))) shape
 
-  after_next : (rounds place : ℕ) (kind : Kind) (b : Block) → IsKindAt diagram place kind b → (row_of kind).signal.shape ≡ Shape.Elementwise → after (suc rounds) place ≡ taken_by kind (after rounds place) (inputs_after rounds place)
+  after_next : (rounds place : ℕ) (kind : Kind) (b : Block) → IsKindAt diagram place kind b
+      → (row_of kind).signal.shape ≡ Shape.Elementwise
+      → after (suc rounds) place ≡ taken_by kind (after rounds place) (inputs_after rounds place)
   after_next rounds place kind b is shape =
       let below : place < length (widths_after diagram rounds) = subst (λ (n : ℕ). place < n) (sym (rounds_long rounds)) (slice_get_within diagram.blocks place b is.block_is) in
       let there = round_at (next_widths diagram) (widths_after diagram rounds) place below in
-      ap (λ (own : List ℕ). slice_index_or own 0 0) (get_or_from_slice_get (widths_after diagram (suc rounds)) place (next_widths diagram (widths_after diagram rounds) place) [] there ∙ next_is place kind b is shape (widths_after diagram rounds))
+      ap (λ (own : List ℕ). slice_index_or own 0 0)
+      (get_or_from_slice_get (widths_after diagram (suc rounds)) place
+      (next_widths diagram (widths_after diagram rounds) place) [] there
+      ∙ next_is place kind b is shape (widths_after diagram rounds))
 
   after_first : (place : ℕ) (kind : Kind) (b : Block) → IsKindAt diagram place kind b → (row_of kind).signal.shape ≡ Shape.Elementwise → (row_of kind).signal.width ≡ 0 → after 0 place ≡ 1
   after_first place kind b is shape declared =
@@ -74,14 +81,18 @@ module _ (diagram : Diagram) (checked : IsChecked diagram) where
       ∙ ap (λ (s : Shape). first_of s (row_of kind).signal.width) shape ∙ ap (λ (w : ℕ). first_of Shape.Elementwise w) declared)
 
   -- widths grow, and aren't past the cut
-  within_cut : (rounds place : ℕ) (kind : Kind) (b : Block) → IsKindAt diagram place kind b → (row_of kind).signal.shape ≡ Shape.Elementwise → (row_of kind).signal.width ≡ 0 → (1 ≤ after rounds place) × (after rounds place ≤ 1025)
+  within_cut : (rounds place : ℕ) (kind : Kind) (b : Block) → IsKindAt diagram place kind b
+      → (row_of kind).signal.shape ≡ Shape.Elementwise → (row_of kind).signal.width ≡ 0
+      → (1 ≤ after rounds place) × (after rounds place ≤ 1025)
   within_cut zero place kind b is shape declared = let one = after_first place kind b is shape declared in (omega (arith, one), omega (arith, one))
   within_cut (suc rounds) place kind b is shape declared =
       let before = within_cut rounds place kind b is shape declared in
       let next = after_next rounds place kind b is shape in
       (omega (arith, before.0, before.1, next), omega (arith, next))
 
-  grows : (rounds place : ℕ) (kind : Kind) (b : Block) → IsKindAt diagram place kind b → (row_of kind).signal.shape ≡ Shape.Elementwise → (row_of kind).signal.width ≡ 0 → after rounds place ≤ after (suc rounds) place
+  grows : (rounds place : ℕ) (kind : Kind) (b : Block) → IsKindAt diagram place kind b
+      → (row_of kind).signal.shape ≡ Shape.Elementwise → (row_of kind).signal.width ≡ 0
+      → after rounds place ≤ after (suc rounds) place
   grows rounds place kind b is shape declared =
       let before = within_cut rounds place kind b is shape declared in
       let next = after_next rounds place kind b is shape in
@@ -100,7 +111,9 @@ module _ (diagram : Diagram) (checked : IsChecked diagram) where
       let bounded = each i from.0 below driver in
       omega (arith, bounded, from.2))
 
-  input_least : (widths : Widths) (place : ℕ) (b : Block) → slice_get diagram.blocks place ≡ Some b → (i : ℕ) (edge : Edge) → i < b.inputs → driver_of diagram place (suc i) ≡ Some edge → width_at widths edge.from edge.from_port ≤ greatest (input_widths diagram widths place)
+  input_least : (widths : Widths) (place : ℕ) (b : Block) → slice_get diagram.blocks place ≡ Some b
+      → (i : ℕ) (edge : Edge) → i < b.inputs → driver_of diagram place (suc i) ≡ Some edge
+      → width_at widths edge.from edge.from_port ≤ greatest (input_widths diagram widths place)
   input_least widths place b at i edge below driver =
       let own = edge_at diagram checked.wired place b at i below in
       let same : own.0 ≡ edge = same_Some own.0 edge (sym own.2 ∙ driver) in
@@ -113,11 +126,15 @@ module _ (diagram : Diagram) (checked : IsChecked diagram) where
   width place = width_at (widths_of diagram) place 1
 
   -- an input is no wider than the block
-  wide : (place : ℕ) (kind : Kind) (b : Block) → IsKindAt diagram place kind b → (row_of kind).signal.shape ≡ Shape.Elementwise → 1 ≤ b.outputs → (i : ℕ) (edge : Edge) → i < b.inputs → driver_of diagram place (suc i) ≡ Some edge
+  wide : (place : ℕ) (kind : Kind) (b : Block) → IsKindAt diagram place kind b
+      → (row_of kind).signal.shape ≡ Shape.Elementwise → 1 ≤ b.outputs → (i : ℕ) (edge : Edge) → i < b.inputs
+      → driver_of diagram place (suc i) ≡ Some edge
       → width_at (widths_of diagram) edge.from edge.from_port ≤ width place
   wide place kind b is shape some i edge below driver =
       let keeps = checked.dimensions.blocks place b is.block_is in
-      let own : taken_by kind (width place) (input_widths diagram (widths_of diagram) place) ∷ [] ≡ slice_index_or (widths_of diagram) place [] = sym (next_is place kind b is shape (widths_of diagram)) ∙ keeps.settled in
+      let own : taken_by kind (width place) (input_widths diagram (widths_of diagram) place) ∷ []
+      ≡ slice_index_or (widths_of diagram) place [] =
+      sym (next_is place kind b is shape (widths_of diagram)) ∙ keeps.settled in
       let long : 0 < length (slice_index_or (widths_of diagram) place []) = subst (λ (list : List ℕ). 0 < length list) own (omega arith) in
       let small : width place ≤ 1024 = keeps.within some 0 0 long in
       let same : taken_by kind (width place) (input_widths diagram (widths_of diagram) place) ≡ width place = ap (λ (list : List ℕ). slice_index_or list 0 0) own in
@@ -134,13 +151,18 @@ module _ (diagram : Diagram) (checked : IsChecked diagram) where
     input_is = filter.input.1
 
     -- of one input
-    only_first : (place : ℕ) (b : Block) (edge : Edge) → b.inputs ≡ 1 → driver_of diagram place 1 ≡ Some edge → (i : ℕ) (own : Edge) → i < b.inputs → driver_of diagram place (suc i) ≡ Some own → own ≡ edge
+    only_first : (place : ℕ) (b : Block) (edge : Edge) → b.inputs ≡ 1 → driver_of diagram place 1 ≡ Some edge
+        → (i : ℕ) (own : Edge) → i < b.inputs → driver_of diagram place (suc i) ≡ Some own → own ≡ edge
     only_first place b edge one driver zero own below at = same_Some own edge (sym at ∙ driver)
     only_first place b edge one driver (suc i) own below at = absurd (omega (arith, below, one))
 
     -- a block is no wider than the filter's input, if its inputs weren't
-    no_wider : (rounds place : ℕ) (kind : Kind) (b : Block) → IsKindAt diagram place kind b → (row_of kind).signal.shape ≡ Shape.Elementwise → list_length kind ≤ 1 → after rounds place ≤ after rounds first
-        → ((i : ℕ) (edge : Edge) → i < b.inputs → driver_of diagram place (suc i) ≡ Some edge → width_at (widths_after diagram rounds) edge.from edge.from_port ≤ after rounds first) → after (suc rounds) place ≤ after (suc rounds) first
+    no_wider : (rounds place : ℕ) (kind : Kind) (b : Block) → IsKindAt diagram place kind b
+        → (row_of kind).signal.shape ≡ Shape.Elementwise → list_length kind ≤ 1
+        → after rounds place ≤ after rounds first
+        → ((i : ℕ) (edge : Edge) → i < b.inputs → driver_of diagram place (suc i) ≡ Some edge
+        → width_at (widths_after diagram rounds) edge.from edge.from_port ≤ after rounds first)
+        → after (suc rounds) place ≤ after (suc rounds) first
     no_wider rounds place kind b is shape lists own inputs =
         let next = after_next rounds place kind b is shape in
         let most = inputs_most (widths_after diagram rounds) place b is.block_is (after rounds first) inputs in

@@ -19,7 +19,8 @@ index-part (x ∷ xs) (suc start) count place below =
     subst (λ n. slice_index_or (take count (drop (suc start) (x ∷ xs))) place (pos 0) ≡ slice_index_or (x ∷ xs) n (pos 0)) e (index-part xs start count place below)
 
 -- a list is what a function gives of another, place by place
-pub by-places : {A : Type 0} (f : A → ℤ) (es : List A) (out : List ℤ) → length out ≡ length es → ((place : ℕ) (e : A) → slice_get es place ≡ Some e → slice_index_or out place (pos 0) ≡ f e) → out ≡ map f es
+pub by-places : {A : Type 0} (f : A → ℤ) (es : List A) (out : List ℤ) → length out ≡ length es
+    → ((place : ℕ) (e : A) → slice_get es place ≡ Some e → slice_index_or out place (pos 0) ≡ f e) → out ≡ map f es
 by-places f [] [] same each = refl
 by-places f [] (v ∷ out) same each = absurd (omega (arith, same))
 by-places f (e ∷ es) [] same each = absurd (omega (arith, same))

@@ -1,5 +1,6 @@
 -- Numbers one after another, and what a function gives of each.
-use Rattle.std.proofs.Common.{◌≡◌, ℕ, zero, suc, ◌+◌, ◌<◌, Some, List, [], ◌∷◌, ◌++◌, length, map, take, refl, ap, ◌∙◌, arith, ◌≤◌, add-one, ◌||◌, Bool, slice_index, get_or, ap₂, sym, append_assoc, le_refl}
+use Rattle.std.proofs.Common.{◌≡◌, ℕ, zero, suc, ◌+◌, ◌<◌, Some, List, [], ◌∷◌, ◌++◌, length, map, take, refl, ap, ◌∙◌, arith, ◌≤◌, add-one, ◌||◌, Bool, slice_index, get_or, ap₂, sym, append_assoc}
+use Rattle.std.proofs.Common.{le_refl}
 use Rattle.std.specs.Prelude.{slice_get}
 use Rattle.math_list.specs.Numbers.{numbers_from}
 use Rattle.std.specs.List.{list_any}

@@ -1,5 +1,6 @@
 -- Elements of lists by their places, after an append, `take`, `drop`, `map` and `set`.
-use Rattle.std.proofs.Common.{◌≡◌, ℕ, zero, suc, ◌+◌, ◌-◌, ◌<◌, ◌≤◌, List, [], ◌∷◌, ◌++◌, length, take, drop, inl, inr, ⊎_elim, refl, ap, ◌∙◌, arith, subst, map, All, Bool, cond, fold, max, Contains, true, append_assoc, None, Some, slice_get, ◌⊎◌, Result, Ok, Err, IfOk, sym, length-append}
+use Rattle.std.proofs.Common.{◌≡◌, ℕ, zero, suc, ◌+◌, ◌-◌, ◌<◌, ◌≤◌, List, [], ◌∷◌, ◌++◌, length, take, drop, inl, inr, ⊎_elim, refl, ap, ◌∙◌, arith, subst, map, All, Bool, cond, fold, max, Contains}
+use Rattle.std.proofs.Common.{true, append_assoc, None, Some, slice_get, ◌⊎◌, Result, Ok, Err, IfOk, sym, length-append}
 use Rattle.std.specs.Prelude.{slice_get, Some, ◌⊎◌, All, count_by, set}
 use Rattle.std.proofs.lemmas.Option.{none-some, get_or_from_slice_get, slice_get_within, same_Some}
 use Rattle.std.proofs.lemmas.List.Sums.{sum_by-cons}

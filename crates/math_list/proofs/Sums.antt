@@ -60,7 +60,8 @@ sum_before f k (suc n) (suc i) h =
     omega (arith, e, sum-cons (f k) (map f (numbers_from (suc k) n)), sum-cons (f k) (map f (numbers_from (suc k) i)), sum_before f (suc k) n i (omega arith))
 
 -- ---- parts of signals end to end
-pub parts_one : (widths : List ℕ) (i j k l : ℕ) → i < length widths → j < length widths → k < slice_index widths i → l < slice_index widths j → sum (take i widths) + k ≡ sum (take j widths) + l → (i ≡ j) × (k ≡ l)
+pub parts_one : (widths : List ℕ) (i j k l : ℕ) → i < length widths → j < length widths → k < slice_index widths i
+    → l < slice_index widths j → sum (take i widths) + k ≡ sum (take j widths) + l → (i ≡ j) × (k ≡ l)
 parts_one [] i j k l p q r s e = absurd (omega (arith, p))
 parts_one (w ∷ ws) zero zero k l p q r s e = (refl, omega (arith, e))
 parts_one (w ∷ ws) zero (suc j) k l p q r s e = absurd (omega (arith, e, r, sum-cons w (take j ws)))

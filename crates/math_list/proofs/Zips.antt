@@ -33,7 +33,9 @@ zip-append R [] (y ∷ ys) more rest h k = absurd h
 zip-append R (x ∷ xs) [] more rest h k = absurd h
 zip-append R (x ∷ xs) (y ∷ ys) more rest h k = (h.0, zip-append R xs ys more rest h.1 k)
 
-pub zip-flat : {X Y A B : Type 0} (R : X → Y → Type 0) (S : A → B → Type 0) (f : X → List A) (g : Y → List B) → ((x : X) (y : Y) → R x y → AllZip S (f x) (g y)) → (xs : List X) (ys : List Y) → AllZip R xs ys → AllZip S (flat_map f xs) (flat_map g ys)
+pub zip-flat : {X Y A B : Type 0} (R : X → Y → Type 0) (S : A → B → Type 0) (f : X → List A) (g : Y → List B)
+    → ((x : X) (y : Y) → R x y → AllZip S (f x) (g y)) → (xs : List X) (ys : List Y) → AllZip R xs ys
+    → AllZip S (flat_map f xs) (flat_map g ys)
 zip-flat R S f g each [] [] h = tt
 zip-flat R S f g each [] (y ∷ ys) h = absurd h
 zip-flat R S f g each (x ∷ xs) [] h = absurd h

@@ -1,5 +1,6 @@
 -- Products of a whole number and a natural, division with a rest, congruence, and powers of two.
-use Rattle.std.proofs.Common.{◌≡◌, ℕ, zero, suc, ◌+◌, ◌-◌, ◌*◌, ◌/◌, ◌%◌, ◌^◌, ◌<◌, ◌≤◌, ℤ, pos, negsuc, ◌+ℤ◌, ◌*ℤ◌, neg_ℤ, ◌≤ℤ◌, ◌<ℤ◌, ap, sym, ◌∙◌, arith, mul_comm, mul_assoc, mul-le-mul_right, pow-suc, mod-lt, div-add-mod', unsigned_abs, pow_pos, inr, inl, ◌⊎◌}
+use Rattle.std.proofs.Common.{◌≡◌, ℕ, zero, suc, ◌+◌, ◌-◌, ◌*◌, ◌/◌, ◌%◌, ◌^◌, ◌<◌, ◌≤◌, ℤ, pos, negsuc, ◌+ℤ◌, ◌*ℤ◌, neg_ℤ, ◌≤ℤ◌, ◌<ℤ◌, ap, sym, ◌∙◌, arith, mul_comm, mul_assoc, mul-le-mul_right}
+use Rattle.std.proofs.Common.{pow-suc, mod-lt, div-add-mod', unsigned_abs, pow_pos, inr, inl, ◌⊎◌}
 use Rattle.std.specs.Int.{int_div_euclid}
 use Rattle.std.proofs.lemmas.Int.{ints, by_lt_z}
 use borrow.Author.Differences.{up, down, sum_is_lem, le_out, neg_is}

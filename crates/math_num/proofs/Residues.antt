@@ -1,5 +1,6 @@
 -- Numbers of 128 bits and their bits, modulo 2 to the power 128.
-use Rattle.std.proofs.Common.{◌≡◌, ℕ, zero, suc, ◌+◌, ◌-◌, ◌*◌, ◌/◌, ◌%◌, ◌^◌, ◌<◌, ◌≤◌, ◌<ℤ◌, ◌≤ℤ◌, ◌≢◌, int_lt, not, if◌then◌else◌, Bool, true, false, ℤ, pos, negsuc, ◌+ℤ◌, ◌-ℤ◌, ◌*ℤ◌, neg_ℤ, ap, sym, ◌∙◌, subst, arith, refl, of_z, to_z, FitsSigned, bit_and, bit_or, bit_xor, mod-lt, inl, inr, pow_pos, pow_mono}
+use Rattle.std.proofs.Common.{◌≡◌, ℕ, zero, suc, ◌+◌, ◌-◌, ◌*◌, ◌/◌, ◌%◌, ◌^◌, ◌<◌, ◌≤◌, ◌<ℤ◌, ◌≤ℤ◌, ◌≢◌, int_lt, not, if◌then◌else◌, Bool, true, false, ℤ, pos, negsuc, ◌+ℤ◌, ◌-ℤ◌, ◌*ℤ◌, neg_ℤ, ap}
+use Rattle.std.proofs.Common.{sym, ◌∙◌, subst, arith, refl, of_z, to_z, FitsSigned, bit_and, bit_or, bit_xor, mod-lt, inl, inr, pow_pos, pow_mono}
 use Rattle.std.specs.Int.{w128}
 use Rattle.std.proofs.lemmas.Int.{ints, to_z-of_z}
 use Rattle.std.proofs.lemmas.Nat.{pow-add, div-add-mod', mod-mul-add, and_le_l, or_lt, xor_lt, shl-shr, shr-shr, shr_le, div_below}
@@ -36,7 +37,9 @@ read-congruent n h = elim (cases_lt n 170141183460469231731687303715884105728) [
 -- a remainder read so
 pub cut-congruent : (n : ℕ) → IsCongruent (to_z w128 (n % 340282366920938463463374607431768211456)) (pos n) 340282366920938463463374607431768211456
 cut-congruent n =
-    IsCongruent-trans 340282366920938463463374607431768211456 (read-congruent (n % 340282366920938463463374607431768211456) (mod-lt n (omega arith))) (remainder_congruent n 340282366920938463463374607431768211456)
+    IsCongruent-trans 340282366920938463463374607431768211456
+    (read-congruent (n % 340282366920938463463374607431768211456) (mod-lt n (omega arith)))
+    (remainder_congruent n 340282366920938463463374607431768211456)
 
 bits-congruent : (v : ℤ) → FitsSigned w128 v → IsCongruent (pos (of_z w128 v)) v 340282366920938463463374607431768211456
 bits-congruent (pos n) f = record { turns = pos 0; equal = omega (arith, ints) }
@@ -48,7 +51,9 @@ sum-of-bits (pos m) (negsuc n) f g = record { turns = pos 1; equal = omega (arit
 sum-of-bits (negsuc m) (pos n) f g = record { turns = pos 1; equal = omega (arith, ints, f.sfits) }
 sum-of-bits (negsuc m) (negsuc n) f g = record { turns = pos 2; equal = omega (arith, ints, f.sfits, g.sfits) }
 
-difference-of-bits : (a b : ℤ) → FitsSigned w128 a → FitsSigned w128 b → IsCongruent (pos (of_z w128 a + (340282366920938463463374607431768211456 - of_z w128 b))) (a -ℤ b) 340282366920938463463374607431768211456
+difference-of-bits : (a b : ℤ) → FitsSigned w128 a → FitsSigned w128 b
+    → IsCongruent (pos (of_z w128 a + (340282366920938463463374607431768211456 - of_z w128 b)))
+    (a -ℤ b) 340282366920938463463374607431768211456
 difference-of-bits (pos m) (pos n) f g = record { turns = pos 1; equal = omega (arith, ints, f.sfits, g.sfits) }
 difference-of-bits (pos m) (negsuc n) f g = record { turns = pos 0; equal = omega (arith, ints, f.sfits, g.sfits) }
 difference-of-bits (negsuc m) (pos n) f g = record { turns = pos 2; equal = omega (arith, ints, f.sfits, g.sfits) }
@@ -67,13 +72,21 @@ product-of-bits : (a b : ℤ) → FitsSigned w128 a → FitsSigned w128 b → Is
 product-of-bits a b f g =
     IsCongruent-trans 340282366920938463463374607431768211456 (IsCongruent-times 340282366920938463463374607431768211456 (of_z w128 b) (bits-congruent a f)) (times-bits a b g)
 
-pub sum-congruent : (a b : ℤ) → FitsSigned w128 a → FitsSigned w128 b → IsCongruent (to_z w128 ((of_z w128 a + of_z w128 b) % 340282366920938463463374607431768211456)) (a +ℤ b) 340282366920938463463374607431768211456
+pub sum-congruent : (a b : ℤ) → FitsSigned w128 a → FitsSigned w128 b
+    → IsCongruent (to_z w128 ((of_z w128 a + of_z w128 b) % 340282366920938463463374607431768211456))
+    (a +ℤ b) 340282366920938463463374607431768211456
 sum-congruent a b f g = IsCongruent-trans 340282366920938463463374607431768211456 (cut-congruent (of_z w128 a + of_z w128 b)) (sum-of-bits a b f g)
 
-pub difference-congruent : (a b : ℤ) → FitsSigned w128 a → FitsSigned w128 b → IsCongruent (to_z w128 ((of_z w128 a + (340282366920938463463374607431768211456 - of_z w128 b)) % 340282366920938463463374607431768211456)) (a -ℤ b) 340282366920938463463374607431768211456
-difference-congruent a b f g = IsCongruent-trans 340282366920938463463374607431768211456 (cut-congruent (of_z w128 a + (340282366920938463463374607431768211456 - of_z w128 b))) (difference-of-bits a b f g)
+pub difference-congruent : (a b : ℤ) → FitsSigned w128 a → FitsSigned w128 b
+    → IsCongruent (to_z w128 ((of_z w128 a + (340282366920938463463374607431768211456 - of_z w128 b)) %
+    340282366920938463463374607431768211456)) (a -ℤ b) 340282366920938463463374607431768211456
+difference-congruent a b f g = IsCongruent-trans 340282366920938463463374607431768211456
+    (cut-congruent (of_z w128 a + (340282366920938463463374607431768211456 - of_z w128 b)))
+    (difference-of-bits a b f g)
 
-pub product-congruent : (a b : ℤ) → FitsSigned w128 a → FitsSigned w128 b → IsCongruent (to_z w128 ((of_z w128 a * of_z w128 b) % 340282366920938463463374607431768211456)) (a *ℤ b) 340282366920938463463374607431768211456
+pub product-congruent : (a b : ℤ) → FitsSigned w128 a → FitsSigned w128 b
+    → IsCongruent (to_z w128 ((of_z w128 a * of_z w128 b) % 340282366920938463463374607431768211456))
+    (a *ℤ b) 340282366920938463463374607431768211456
 product-congruent a b f g = IsCongruent-trans 340282366920938463463374607431768211456 (cut-congruent (of_z w128 a * of_z w128 b)) (product-of-bits a b f g)
 
 pub inverted-congruent : (a : ℤ) → FitsSigned w128 a → IsCongruent (to_z w128 (340282366920938463463374607431768211455 - of_z w128 a)) (negsuc 0 -ℤ a) 340282366920938463463374607431768211456
@@ -92,15 +105,21 @@ pub bits-below : (v : ℤ) → FitsSigned w128 v → of_z w128 v < 3402823669209
 bits-below (pos n) f = omega (arith, f.sfits)
 bits-below (negsuc n) f = omega (arith, f.sfits)
 
-pub and-congruent : (a b : ℤ) → FitsSigned w128 a → FitsSigned w128 b → IsCongruent (to_z w128 (bit_and (of_z w128 a) (of_z w128 b))) (pos (bit_and (low_bits 128 a) (low_bits 128 b))) 340282366920938463463374607431768211456
+pub and-congruent : (a b : ℤ) → FitsSigned w128 a → FitsSigned w128 b
+    → IsCongruent (to_z w128 (bit_and (of_z w128 a) (of_z w128 b)))
+    (pos (bit_and (low_bits 128 a) (low_bits 128 b))) 340282366920938463463374607431768211456
 and-congruent a b f g =
     rw (← (bits-are a f), ← (bits-are b g)) (read-congruent (bit_and (of_z w128 a) (of_z w128 b)) (omega (arith, and_le_l (of_z w128 a) (of_z w128 b), bits-below a f)))
 
-pub or-congruent : (a b : ℤ) → FitsSigned w128 a → FitsSigned w128 b → IsCongruent (to_z w128 (bit_or (of_z w128 a) (of_z w128 b))) (pos (bit_or (low_bits 128 a) (low_bits 128 b))) 340282366920938463463374607431768211456
+pub or-congruent : (a b : ℤ) → FitsSigned w128 a → FitsSigned w128 b
+    → IsCongruent (to_z w128 (bit_or (of_z w128 a) (of_z w128 b)))
+    (pos (bit_or (low_bits 128 a) (low_bits 128 b))) 340282366920938463463374607431768211456
 or-congruent a b f g =
     rw (← (bits-are a f), ← (bits-are b g)) (read-congruent (bit_or (of_z w128 a) (of_z w128 b)) (or_lt 128 (of_z w128 a) (of_z w128 b) (bits-below a f) (bits-below b g)))
 
-pub xor-congruent : (a b : ℤ) → FitsSigned w128 a → FitsSigned w128 b → IsCongruent (to_z w128 (bit_xor (of_z w128 a) (of_z w128 b))) (pos (bit_xor (low_bits 128 a) (low_bits 128 b))) 340282366920938463463374607431768211456
+pub xor-congruent : (a b : ℤ) → FitsSigned w128 a → FitsSigned w128 b
+    → IsCongruent (to_z w128 (bit_xor (of_z w128 a) (of_z w128 b)))
+    (pos (bit_xor (low_bits 128 a) (low_bits 128 b))) 340282366920938463463374607431768211456
 xor-congruent a b f g =
     rw (← (bits-are a f), ← (bits-are b g)) (read-congruent (bit_xor (of_z w128 a) (of_z w128 b)) (xor_lt 128 (of_z w128 a) (of_z w128 b) (bits-below a f) (bits-below b g)))
 
@@ -115,7 +134,9 @@ far-down (negsuc n) places f h =
     let e : n / 2 ^ places ≡ 0 = div-eq_of_lt (omega (arith, f.sfits)) in
     (λ _. ap negsuc (sym e), λ above. absurd (omega (arith, ints, above)))
 
-pub up-congruent : (v : ℤ) (places : ℕ) → FitsSigned w128 v → IsCongruent (to_z w128 (of_z w128 v * 2 ^ places % 340282366920938463463374607431768211456)) (v *ℤ pos (2 ^ places)) 340282366920938463463374607431768211456
+pub up-congruent : (v : ℤ) (places : ℕ) → FitsSigned w128 v
+    → IsCongruent (to_z w128 (of_z w128 v * 2 ^ places % 340282366920938463463374607431768211456))
+    (v *ℤ pos (2 ^ places)) 340282366920938463463374607431768211456
 up-congruent v places f =
     IsCongruent-trans 340282366920938463463374607431768211456 (cut-congruent (of_z w128 v * 2 ^ places)) (IsCongruent-times 340282366920938463463374607431768211456 (2 ^ places) (bits-congruent v f))
 
@@ -129,7 +150,9 @@ far-up v places h =
     record { turns = neg_ℤ z; equal = omega (arith, ints, e, n) }
 
 -- what is congruent modulo 2 to the power 128 is cut to the same number of a word
-pub cut-through : (value exact result : ℤ) (width : ℕ) (signed : Bool) → width ≤ 128 → IsCongruent value exact 340282366920938463463374607431768211456 → IsWrapped value width signed result → IsWrapped exact width signed result
+pub cut-through : (value exact result : ℤ) (width : ℕ) (signed : Bool) → width ≤ 128
+    → IsCongruent value exact 340282366920938463463374607431768211456 → IsWrapped value width signed result
+    → IsWrapped exact width signed result
 cut-through value exact result width signed h same is =
     let k : 128 - width + width ≡ 128 = omega arith in
     let p : 2 ^ (128 - width) * 2 ^ width ≡ 340282366920938463463374607431768211456 = sym (pow-add 2 (128 - width) width) ∙ ap (λ (n : ℕ). 2 ^ n) k in
@@ -167,7 +190,10 @@ between bits high low order within =
     let cut : (bits * 2 ^ k) % (2 ^ (high + 1) * 2 ^ k) ≡ r * 2 ^ k = ap (λ (i : ℕ). i % (2 ^ (high + 1) * 2 ^ k)) turned ∙ mod-mul-add q (2 ^ (high + 1) * 2 ^ k) (r * 2 ^ k) below in
     ap (λ (m : ℕ). (bits * 2 ^ k) % m / 2 ^ (k + low)) (sym p) ∙ ap (λ (i : ℕ). i / 2 ^ (k + low)) cut ∙ sym (shr-shr (r * 2 ^ k) k low) ∙ ap (λ (i : ℕ). i / 2 ^ low) (shl-shr r k)
 
-pub slice-congruent : (v : ℤ) (high low : ℕ) → high < 128 → FitsSigned w128 v → (part : ℕ) → part ≡ of_z w128 v % 2 ^ (high + 1) / 2 ^ low → IsCongruent (to_z w128 part) (pos (low_bits (high + 1) v / 2 ^ low)) 340282366920938463463374607431768211456
+pub slice-congruent : (v : ℤ) (high low : ℕ) → high < 128 → FitsSigned w128 v → (part : ℕ)
+    → part ≡ of_z w128 v % 2 ^ (high + 1) / 2 ^ low
+    → IsCongruent (to_z w128 part)
+    (pos (low_bits (high + 1) v / 2 ^ low)) 340282366920938463463374607431768211456
 slice-congruent v high low within f part is =
     let e : part ≡ low_bits (high + 1) v / 2 ^ low = is ∙ ap (λ (i : ℕ). i / 2 ^ low) (low-of-bits v (high + 1) (omega arith) f) in
     let some = pow_pos (high + 1) in
@@ -200,11 +226,15 @@ not-same a b h = only-false (int_eq a b) (λ e. h ((Decides-int_eq a b).0 e))
 truth-congruent : (holds value : Bool) → holds ≡ value → IsCongruent (truth value) (truth holds) 340282366920938463463374607431768211456
 truth-congruent holds value e = rw e (IsCongruent-refl (truth value) 340282366920938463463374607431768211456)
 
-pub below-congruent : (a b : ℤ) (value : Bool) → FitsSigned w128 a → FitsSigned w128 b → int_lt (to_z w128 (of_z w128 a)) (to_z w128 (of_z w128 b)) ≡ value → IsCongruent (truth value) (truth (int_lt a b)) 340282366920938463463374607431768211456
+pub below-congruent : (a b : ℤ) (value : Bool) → FitsSigned w128 a → FitsSigned w128 b
+    → int_lt (to_z w128 (of_z w128 a)) (to_z w128 (of_z w128 b)) ≡ value
+    → IsCongruent (truth value) (truth (int_lt a b)) 340282366920938463463374607431768211456
 below-congruent a b value f g e = truth-congruent (int_lt a b) value (rw (to_z-of_z w128 a f, to_z-of_z w128 b g) at e)
 
 pub same-congruent : (a b : ℤ) → FitsSigned w128 a → FitsSigned w128 b
-    → (of_z w128 a ≡ of_z w128 b → IsCongruent (pos 1) (truth (int_eq a b)) 340282366920938463463374607431768211456) × (of_z w128 a ≢ of_z w128 b → IsCongruent (pos 0) (truth (int_eq a b)) 340282366920938463463374607431768211456)
+    → (of_z w128 a ≡ of_z w128 b → IsCongruent (pos 1) (truth (int_eq a b)) 340282366920938463463374607431768211456)
+    × (of_z w128 a ≢ of_z w128 b
+    → IsCongruent (pos 0) (truth (int_eq a b)) 340282366920938463463374607431768211456)
 same-congruent a b f g =
     (λ h. truth-congruent (int_eq a b) true (is-same a b (same-number a b f g h)), λ h. truth-congruent (int_eq a b) false (not-same a b (λ e. h (ap (of_z w128) e))))
 
@@ -224,7 +254,8 @@ pub one-wrapped : (v : ℤ) (width : ℕ) (signed : Bool) (a b : ℤ) → IsWord
 one-wrapped v width signed a b word p q =
     let t : ℤ = p.congruent.turns in
     let u : ℤ = q.congruent.turns in
-    let parts : (t +ℤ neg_ℤ u) *ℤ pos (2 ^ width) ≡ t *ℤ pos (2 ^ width) +ℤ neg_ℤ (u *ℤ pos (2 ^ width)) = add-scaled t (neg_ℤ u) (2 ^ width) ∙ ap (λ (z : ℤ). t *ℤ pos (2 ^ width) +ℤ z) (scaled-neg u (2 ^ width)) in
+    let parts : (t +ℤ neg_ℤ u) *ℤ pos (2 ^ width) ≡ t *ℤ pos (2 ^ width) +ℤ neg_ℤ (u *ℤ pos (2 ^ width)) =
+    add-scaled t (neg_ℤ u) (2 ^ width) ∙ ap (λ (z : ℤ). t *ℤ pos (2 ^ width) +ℤ z) (scaled-neg u (2 ^ width)) in
     let apart : a ≡ b +ℤ (t +ℤ neg_ℤ u) *ℤ pos (2 ^ width) = omega (arith, ints, p.congruent.equal, q.congruent.equal, parts) in
     let none : t +ℤ neg_ℤ u ≡ pos 0 = in-width width signed a b word p.in_word q.in_word (t +ℤ neg_ℤ u) apart in
     let zero-turns : (t +ℤ neg_ℤ u) *ℤ pos (2 ^ width) ≡ pos 0 = ap (λ (z : ℤ). z *ℤ pos (2 ^ width)) none ∙ omega (arith, ints) in

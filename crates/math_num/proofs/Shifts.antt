@@ -1,5 +1,6 @@
 -- Shifts in words of a computer: up, modulo the word, and down, to the whole number below.
-use Rattle.std.proofs.Common.{◌≡◌, ℕ, suc, ◌+◌, ◌-◌, ◌*◌, ◌/◌, ◌%◌, ◌^◌, ◌<◌, ◌≤◌, true, false, ℤ, pos, negsuc, neg_ℤ, ◌+ℤ◌, ◌*ℤ◌, ◌≤ℤ◌, ◌<ℤ◌, FitsSigned, of_z, to_z, inl, inr, ap, sym, ◌∙◌, subst, arith, pow_pos, mod-lt, lt_of_le_of_lt, div-add-mod', mul-le-mul_right}
+use Rattle.std.proofs.Common.{◌≡◌, ℕ, suc, ◌+◌, ◌-◌, ◌*◌, ◌/◌, ◌%◌, ◌^◌, ◌<◌, ◌≤◌, true, false, ℤ, pos, negsuc, neg_ℤ, ◌+ℤ◌, ◌*ℤ◌, ◌≤ℤ◌, ◌<ℤ◌, FitsSigned, of_z, to_z, inl, inr, ap, sym, ◌∙◌, subst}
+use Rattle.std.proofs.Common.{arith, pow_pos, mod-lt, lt_of_le_of_lt, div-add-mod', mul-le-mul_right}
 use Rattle.std.specs.Int.{Width}
 use Rattle.std.specs.Int.Signed.{shr_z, mag_shr}
 use mir.Val.{bits, hbits}

@@ -1,5 +1,6 @@
 -- Numbers of words: what is cut to a word, and products by how large their factors are.
-use Rattle.std.proofs.Common.{◌≡◌, ℕ, suc, ◌+◌, ◌-◌, ◌*◌, ◌/◌, ◌%◌, ◌^◌, ◌<◌, ◌≤◌, true, false, ℤ, pos, negsuc, ◌+ℤ◌, ◌*ℤ◌, ap, sym, ◌∙◌, arith, mul_comm, pow_pos, pow_mono, to_z, of_z, zero, Bool, neg_ℤ, bit_and, div-add-mod', FitsSigned, refl, ◌<ℤ◌, ◌≤ℤ◌, unsigned_abs}
+use Rattle.std.proofs.Common.{◌≡◌, ℕ, suc, ◌+◌, ◌-◌, ◌*◌, ◌/◌, ◌%◌, ◌^◌, ◌<◌, ◌≤◌, true, false, ℤ, pos, negsuc, ◌+ℤ◌, ◌*ℤ◌, ap, sym, ◌∙◌, arith, mul_comm, pow_pos, pow_mono, to_z, of_z, zero, Bool}
+use Rattle.std.proofs.Common.{neg_ℤ, bit_and, div-add-mod', FitsSigned, refl, ◌<ℤ◌, ◌≤ℤ◌, unsigned_abs}
 use Rattle.std.proofs.lemmas.Nat.{and_mask, pow-add, shr_high}
 use Rattle.std.proofs.Math.Arith.{mul_pred}
 use Rattle.std.specs.Int.{w128}

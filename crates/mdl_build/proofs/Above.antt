@@ -25,7 +25,9 @@ some_above : (items : List Item) (low high k holder : ℕ) → low ≤ high → 
 some_above items low high zero holder h some = let bad : ◌≡◌ {A = Option ℕ} None (Some holder) = some in cc
 some_above items low high (suc k) holder h some = by_test (some_above items low high k holder h) (nat_lt (depth_at items k) high) refl
   where
-    by_test : (last_above items high k ≡ Some holder → last_above items low k ≡ last_above items low (suc holder)) → (b : Bool) → nat_lt (depth_at items k) high ≡ b → last_above items low (suc k) ≡ last_above items low (suc holder)
+    by_test : (last_above items high k ≡ Some holder → last_above items low k ≡ last_above items low (suc holder))
+        → (b : Bool) → nat_lt (depth_at items k) high ≡ b
+        → last_above items low (suc k) ≡ last_above items low (suc holder)
     by_test before true e =
         let same : k ≡ holder = same_Some k holder (sym (ap (λ (b : Bool). cond b (Some k) (last_above items high k)) e) ∙ some) in
         ap (λ (n : ℕ). last_above items low (suc n)) same
@@ -40,7 +42,8 @@ behind None = 0
 behind (Some holder) = holder + 1
 
 -- an item that isn't less deep, and all to its holder, can be passed over
-pub leap : (items : List Item) (depth last : ℕ) (holder : Option ℕ) → depth ≤ depth_at items last → holder ≡ holder_of items last → last_above items depth (last + 1) ≡ last_above items depth (behind holder)
+pub leap : (items : List Item) (depth last : ℕ) (holder : Option ℕ) → depth ≤ depth_at items last
+    → holder ≡ holder_of items last → last_above items depth (last + 1) ≡ last_above items depth (behind holder)
 leap items depth last holder h is = step ∙ by_holder holder is
   where
     not_less : nat_lt (depth_at items last) depth ≡ false
@@ -56,14 +59,19 @@ leap items depth last holder h is = step ∙ by_holder holder is
         some_above items depth (depth_at items last) last k h (sym e) ∙ ap (last_above items depth) plus
 
 -- what is written of the holders
-pub holder_known : (items : List Item) (holders : List (Option ℕ)) (count place : ℕ) → holders ≡ map (holder_of items) (range_with_len 0 count) → place < count → (other : Option ℕ) → get_or holders place other ≡ holder_of items place
+pub holder_known : (items : List Item) (holders : List (Option ℕ)) (count place : ℕ)
+    → holders ≡ map (holder_of items) (range_with_len 0 count) → place < count → (other : Option ℕ)
+    → get_or holders place other ≡ holder_of items place
 holder_known items holders count place is within other = rw is (get_or-map-range_with_len (holder_of items) 0 count place place other within (omega arith))
 
 pub holders_length : (items : List Item) (holders : List (Option ℕ)) (count : ℕ) → holders ≡ map (holder_of items) (range_with_len 0 count) → length holders ≡ count
 holders_length items holders count is = rw is (length-map-range_with_len (holder_of items) 0 count)
 
 -- a leap from a place to behind the holder of the item before it
-pub leap_from : (items : List Item) (depth from place : ℕ) (other : Item) (holder : Option ℕ) → 0 < from → from ≤ length items → depth ≤ (get_or items (from - 1) other).depth → holder ≡ holder_of items (from - 1) → last_above items depth from ≡ last_above items depth place → last_above items depth (behind holder) ≡ last_above items depth place
+pub leap_from : (items : List Item) (depth from place : ℕ) (other : Item) (holder : Option ℕ) → 0 < from
+    → from ≤ length items → depth ≤ (get_or items (from - 1) other).depth → holder ≡ holder_of items (from - 1)
+    → last_above items depth from ≡ last_above items depth place
+    → last_above items depth (behind holder) ≡ last_above items depth place
 leap_from items depth from place other holder some within deep there same =
     let inside : from - 1 < length items = omega arith in
     let at_least : depth ≤ depth_at items (from - 1) = omega (arith, depth_is items (from - 1) other inside) in

@@ -31,13 +31,20 @@ kept_at P from (suc count) place above below passes = by_test (λ a b. kept_at P
         above_more a b h differs = grind (arith, differs)
 
 -- in order of their places
-pub kept_in_order : (P : ℕ → Bool) (from count i j one other : ℕ) → slice_get (filter P (range_with_len from count)) i ≡ Some one → slice_get (filter P (range_with_len from count)) j ≡ Some other → one < other → i < j
+pub kept_in_order : (P : ℕ → Bool) (from count i j one other : ℕ)
+    → slice_get (filter P (range_with_len from count)) i ≡ Some one
+    → slice_get (filter P (range_with_len from count)) j ≡ Some other → one < other → i < j
 kept_in_order P from zero i j one other here there less = let bad : ◌≡◌ {A = Option ℕ} None (Some one) = here in absurd (cc)
-kept_in_order P from (suc count) i j one other here there less = by_test (λ a b. kept_in_order P (from + 1) count a b one other) (λ k place at. (kept_within P (from + 1) count k place at).0) (P from) i j here there
+kept_in_order P from (suc count) i j one other here there less =
+    by_test (λ a b. kept_in_order P (from + 1) count a b one other)
+    (λ k place at. (kept_within P (from + 1) count k place at).0) (P from) i j here there
   where
     by_test : ((a b : ℕ) → slice_get (filter P (range_with_len (from + 1) count)) a ≡ Some one → slice_get (filter P (range_with_len (from + 1) count)) b ≡ Some other → one < other → a < b)
         → ((k place : ℕ) → slice_get (filter P (range_with_len (from + 1) count)) k ≡ Some place → from + 1 ≤ place)
-        → (b : Bool) (i j : ℕ) → slice_get (cond b (from ∷ filter P (range_with_len (from + 1) count)) (filter P (range_with_len (from + 1) count))) i ≡ Some one → slice_get (cond b (from ∷ filter P (range_with_len (from + 1) count)) (filter P (range_with_len (from + 1) count))) j ≡ Some other → i < j
+        → (b : Bool) (i j : ℕ) → slice_get (cond b (from ∷ filter P (range_with_len (from + 1) count))
+        (filter P (range_with_len (from + 1) count))) i ≡ Some one
+        → slice_get (cond b (from ∷ filter P (range_with_len (from + 1) count))
+        (filter P (range_with_len (from + 1) count))) j ≡ Some other → i < j
     by_test rest behind false i j here there = rest i j here there less
     by_test rest behind true zero zero here there = let both : ◌≡◌ {A = Option ℕ} (Some one) (Some other) = sym here ∙ there in let same : one ≡ other = cc in absurd (omega arith)
     by_test rest behind true zero (suc j) here there = omega arith
@@ -59,7 +66,8 @@ none_counted P from (suc count) place none above below passes = by_test (λ n a 
   where
     by_test : (count_by P (range_with_len (from + 1) count) ≡ 0 → from + 1 ≤ place → place < from + 1 + count → ⊥) → (b : Bool) → P from ≡ b → ⊥
     by_test rest true e =
-        let counted = sym (ap (λ (b : Bool). (0 + cond b 1 0) + count_by P (range_with_len (from + 1) count)) e) ∙ sym (count_cons P from (range_with_len (from + 1) count)) ∙ none in omega (arith, counted)
+        let counted = sym (ap (λ (b : Bool). (0 + cond b 1 0) + count_by P (range_with_len (from + 1) count)) e)
+        ∙ sym (count_cons P from (range_with_len (from + 1) count)) ∙ none in omega (arith, counted)
     by_test rest false e =
         let counted = sym (ap (λ (b : Bool). (0 + cond b 1 0) + count_by P (range_with_len (from + 1) count)) e) ∙ sym (count_cons P from (range_with_len (from + 1) count)) ∙ none in
         let differs : (from ≡ place) → ⊥ = λ same. true≢false (sym passes ∙ ap P (sym same) ∙ e) in
@@ -74,11 +82,13 @@ first_is P from count place none above below passes = by_place (from == place) r
     by_place false other = let more : from + 1 ≤ place = grind (arith, nat_tests) in absurd (none_counted P (from + 1) count place none more (omega arith) passes)
 
 -- of those that pass there is one alone
-pub only_one : (P : ℕ → Bool) (from count one other : ℕ) → count_by P (range_with_len from count) ≡ 1 → from ≤ one → one < from + count → P one ≡ true → from ≤ other → other < from + count → P other ≡ true → one ≡ other
+pub only_one : (P : ℕ → Bool) (from count one other : ℕ) → count_by P (range_with_len from count) ≡ 1 → from ≤ one
+    → one < from + count → P one ≡ true → from ≤ other → other < from + count → P other ≡ true → one ≡ other
 only_one P from zero one other few above below passes above' below' passes' = absurd (omega arith)
 only_one P from (suc count) one other few above below passes above' below' passes' = by_test (λ n a b c d. only_one P (from + 1) count one other n a b passes c d passes') (P from) refl
   where
-    by_test : (count_by P (range_with_len (from + 1) count) ≡ 1 → from + 1 ≤ one → one < from + 1 + count → from + 1 ≤ other → other < from + 1 + count → one ≡ other) → (b : Bool) → P from ≡ b → one ≡ other
+    by_test : (count_by P (range_with_len (from + 1) count) ≡ 1 → from + 1 ≤ one → one < from + 1 + count
+        → from + 1 ≤ other → other < from + 1 + count → one ≡ other) → (b : Bool) → P from ≡ b → one ≡ other
     by_test rest true e =
         let counted = sym (ap (λ (b : Bool). (0 + cond b 1 0) + count_by P (range_with_len (from + 1) count)) e) ∙ sym (count_cons P from (range_with_len (from + 1) count)) ∙ few in
         let none : count_by P (range_with_len (from + 1) count) ≡ 0 = omega (arith, counted) in
@@ -99,12 +109,15 @@ block_at items place within counts =
     ap (slice_get (blocks_of items)) number_is ∙ found.1
 
 -- so no two have the same number
-pub one_number : (items : List Item) (one other : ℕ) → one < length items → is_block (role_of items one) ≡ true → other < length items → is_block (role_of items other) ≡ true → number_at items one ≡ number_at items other → one ≡ other
+pub one_number : (items : List Item) (one other : ℕ) → one < length items → is_block (role_of items one) ≡ true
+    → other < length items → is_block (role_of items other) ≡ true → number_at items one ≡ number_at items other
+    → one ≡ other
 one_number items one other within counts within' counts' same =
     let both : ◌≡◌ {A = Option ℕ} (Some one) (Some other) = sym (block_at items one within counts) ∙ ap (slice_get (blocks_of items)) same ∙ block_at items other within' counts' in cc
 
 -- one that stands before has a lesser number
-pub number_before : (items : List Item) (one other : ℕ) → other < length items → is_block (role_of items one) ≡ true → is_block (role_of items other) ≡ true → one < other → number_at items one < number_at items other
+pub number_before : (items : List Item) (one other : ℕ) → other < length items → is_block (role_of items one) ≡ true
+    → is_block (role_of items other) ≡ true → one < other → number_at items one < number_at items other
 number_before items one other within counts counts' less =
     kept_in_order (λ (p : ℕ). is_block (role_of items p)) 0 (length items) _ _ one other (block_at items one (omega arith) counts) (block_at items other within counts') less
 

@@ -1,5 +1,6 @@
 -- How many Systems stand in each section, with one more item.
-use Rattle.std.proofs.Common.{◌≡◌, ◌≢◌, ℕ, ◌+◌, ◌<◌, ◌≤◌, Bool, true, false, cond, List, [], ◌∷◌, length, drop, set, Option, Some, None, get_or, refl, sym, ap, ◌∙◌, ⊎_elim, eq-eqb, ne_eqb, true≢false, arith}
+use Rattle.std.proofs.Common.{◌≡◌, ◌≢◌, ℕ, ◌+◌, ◌<◌, ◌≤◌, Bool, true, false, cond, List, [], ◌∷◌, length, drop, set, Option, Some, None, get_or, refl, sym, ap, ◌∙◌, ⊎_elim, eq-eqb, ne_eqb, true≢false}
+use Rattle.std.proofs.Common.{arith}
 use Rattle.std.specs.Prelude.{◌==◌, ◌&&◌, count_by, is_some}
 use Rattle.std.specs.Option.{option_map_or}
 use Rattle.std.specs.List.{range_with_len}
@@ -50,11 +51,16 @@ module _ (items : List Item) (counts : List ℕ) (place : ℕ) (before : AreCoun
     long = before.long;
     each = λ holder below.
         before.each holder below
-        ∙ sym (count_no (is_system_in items holder) place (ap (λ (found : Option ℕ). is_system (λ level. true) (role_of items place) && at false (λ other. other == holder) found) none ∙ and_false (is_system (λ level. true) (role_of items place))));
+        ∙ sym (count_no (is_system_in items holder) place
+        (ap (λ (found : Option ℕ). is_system (λ level. true) (role_of items place)
+        && at false (λ other. other == holder) found) none
+        ∙ and_false (is_system (λ level. true) (role_of items place))));
   }
 
   -- a System is counted where it stands
-  pub one_system : (own new : ℕ) → is_system (λ level. true) (role_of items place) ≡ true → holder_of items place ≡ Some own → own < length items → new ≡ get_or counts own 0 + 1 → AreCounts items (set counts own new) (place + 1)
+  pub one_system : (own new : ℕ) → is_system (λ level. true) (role_of items place) ≡ true
+      → holder_of items place ≡ Some own → own < length items → new ≡ get_or counts own 0 + 1
+      → AreCounts items (set counts own new) (place + 1)
   one_system own new is there inside value = record {
     long = length-set counts own new ∙ before.long;
     each = λ holder below. ⊎_elim
@@ -103,7 +109,8 @@ few_more true n m i is few = omega (arith, is, few)
 few_more false n m i is few = omega (arith, is, few)
 
 module _ (p : Role → Bool) (roles : List Role) (i : ℕ) where
-  pub counted : (d : Role) (b : Bool) (n m total : ℕ) → i < length roles → b ≡ p (get_or roles i d) → n ≡ from_bool b → m + count_by p (drop i roles) ≡ total → m + n + count_by p (drop (i + 1) roles) ≡ total
+  pub counted : (d : Role) (b : Bool) (n m total : ℕ) → i < length roles → b ≡ p (get_or roles i d)
+      → n ≡ from_bool b → m + count_by p (drop i roles) ≡ total → m + n + count_by p (drop (i + 1) roles) ≡ total
   counted d b n m total inside is one before = by b is one
     where
       here : count_by p (drop i roles) ≡ one_if (p (get_or roles i d)) + count_by p (drop (i + 1) roles)

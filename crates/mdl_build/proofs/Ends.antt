@@ -17,7 +17,8 @@ pub prefix_over : {X : Type 0} (P Q : X → Bool) (xs : List X) → ((x : X) →
 prefix_over P Q [] both = refl
 prefix_over P Q (x ∷ xs) both = by_test (prefix_over P Q xs both) (Q x) refl
   where
-    by_test : prefix_len P xs ≡ prefix_len Q xs + prefix_len P (drop (prefix_len Q xs) xs) → (b : Bool) → Q x ≡ b → prefix_len P (x ∷ xs) ≡ prefix_len Q (x ∷ xs) + prefix_len P (drop (prefix_len Q (x ∷ xs)) (x ∷ xs))
+    by_test : prefix_len P xs ≡ prefix_len Q xs + prefix_len P (drop (prefix_len Q xs) xs) → (b : Bool) → Q x ≡ b
+        → prefix_len P (x ∷ xs) ≡ prefix_len Q (x ∷ xs) + prefix_len P (drop (prefix_len Q (x ∷ xs)) (x ∷ xs))
     by_test more true e =
         let p : P x ≡ true = both x e in
         let inner : drop (1 + prefix_len Q xs) (x ∷ xs) ≡ drop (prefix_len Q xs) xs = rw one-add refl in
@@ -36,7 +37,9 @@ end_over items depth place within below =
     = ap (λ (b : Bool). cond b (1 + prefix_len (λ item. nat_lt depth item.depth) (drop (suc place) items)) 0) yes in
     let over = prefix_over (λ (item : Item). nat_lt depth item.depth) (λ (item : Item). nat_lt (depth_at items place) item.depth) (drop (suc place) items)
     (λ item e. lt-ltb _ _ (omega (arith, below, ltb-true (depth_at items place) item.depth e))) in
-    let behind = ap (prefix_len (λ (item : Item). nat_lt depth item.depth)) (drop-drop (prefix_len (λ (item : Item). nat_lt (depth_at items place) item.depth) (drop (suc place) items)) (suc place) items) in
+    let behind = ap (prefix_len (λ (item : Item). nat_lt depth item.depth))
+    (drop-drop (prefix_len (λ (item : Item). nat_lt (depth_at items place) item.depth) (drop (suc place) items))
+    (suc place) items) in
     let counted = ap (prefix_len (λ (item : Item). nat_lt depth item.depth)) here ∙ first in
     omega (arith, counted, over, behind)
 
@@ -67,27 +70,40 @@ ends_are items ends long each =
 -- ---- the value of a parameter
 
 -- what is deeper than a depth below a section doesn't stand directly in it
-pub value_over : (above depth : ℕ) (name : List ℕ) (items : List Item) → above < depth → value_within above name items ≡ value_within above name (drop (prefix_len (λ item. nat_lt depth item.depth) items) items)
+pub value_over : (above depth : ℕ) (name : List ℕ) (items : List Item) → above < depth
+    → value_within above name items
+    ≡ value_within above name (drop (prefix_len (λ item. nat_lt depth item.depth) items) items)
 value_over above depth name [] h = refl
 value_over above depth name (item ∷ items) h = by_test (value_over above depth name items h) (nat_lt depth item.depth) refl
   where
-    by_test : value_within above name items ≡ value_within above name (drop (prefix_len (λ item. nat_lt depth item.depth) items) items) → (b : Bool) → nat_lt depth item.depth ≡ b → value_within above name (item ∷ items) ≡ value_within above name (drop (prefix_len (λ item. nat_lt depth item.depth) (item ∷ items)) (item ∷ items))
+    by_test : value_within above name items
+        ≡ value_within above name (drop (prefix_len (λ item. nat_lt depth item.depth) items) items) → (b : Bool)
+        → nat_lt depth item.depth ≡ b → value_within above name (item ∷ items)
+        ≡ value_within above name
+        (drop (prefix_len (λ item. nat_lt depth item.depth) (item ∷ items)) (item ∷ items))
     by_test more true e =
         let below : depth < item.depth = ltb-true depth item.depth e in
         let yes : nat_lt above item.depth ≡ true = lt-ltb _ _ (omega arith) in
         let other : (item.depth == suc above) ≡ false = grind (arith, nat_tests) in
-        let inner : drop (1 + prefix_len (λ (item : Item). nat_lt depth item.depth) items) (item ∷ items) ≡ drop (prefix_len (λ (item : Item). nat_lt depth item.depth) items) items = rw one-add refl in
+        let inner : drop (1 + prefix_len (λ (item : Item). nat_lt depth item.depth) items) (item ∷ items)
+        ≡ drop (prefix_len (λ (item : Item). nat_lt depth item.depth) items) items = rw one-add refl in
         rw (e, yes, other, inner) more
     by_test more false e = rw e refl
 
 -- an item below a section that says something, and one that doesn't
-value_first : (items : List Item) (above place : ℕ) (name : List ℕ) → place < length items → above < depth_at items place → value_within above name (drop place items) ≡ first_of (said_at (suc above) name (item_at items place)) (value_within above name (drop (suc place) items))
+value_first : (items : List Item) (above place : ℕ) (name : List ℕ) → place < length items
+    → above < depth_at items place → value_within above name (drop place items)
+    ≡ first_of (said_at (suc above) name (item_at items place))
+    (value_within above name (drop (suc place) items))
 value_first items above place name within below =
     let here : drop place items ≡ item_at items place ∷ drop (suc place) items = drop-cons items place _ within in
     let yes : nat_lt above (depth_at items place) ≡ true = lt-ltb _ _ below in
     ap (value_within above name) here ∙ ap (λ (b : Bool). cond b (first_of (said_at (suc above) name (item_at items place)) (value_within above name (drop (suc place) items))) None) yes
 
-pub value_behind : (items : List Item) (above place : ℕ) (name : List ℕ) (said : Option (List ℕ)) → place < length items → above < depth_at items place → said ≡ said_at (suc above) name (item_at items place) → said ≡ None → value_within above name (drop place items) ≡ value_within above name (drop (end_of items place) items)
+pub value_behind : (items : List Item) (above place : ℕ) (name : List ℕ) (said : Option (List ℕ))
+    → place < length items → above < depth_at items place → said ≡ said_at (suc above) name (item_at items place)
+    → said ≡ None → value_within above name (drop place items)
+    ≡ value_within above name (drop (end_of items place) items)
 value_behind items above place name said within below is none =
     value_first items above place name within below
     ∙ ap (λ (s : Option (List ℕ)). first_of s (value_within above name (drop (suc place) items))) (sym is ∙ none)
@@ -101,7 +117,10 @@ pub depth_is : (items : List Item) (place : ℕ) (other : Item) → place < leng
 depth_is items place other within = ap (λ (i : Item). i.depth) (get_or_default items place _ other within)
 
 -- a leap to the end of an item that is deeper
-pub end_leap : (items : List Item) (depth from end to place : ℕ) (other : Item) → from < end → end < length items → depth < (get_or items end other).depth → to ≡ end_of items end → end_behind items depth end ≡ end_behind items depth place → (from < to) × (to ≤ length items) × (end_behind items depth to ≡ end_behind items depth place)
+pub end_leap : (items : List Item) (depth from end to place : ℕ) (other : Item) → from < end → end < length items
+    → depth < (get_or items end other).depth → to ≡ end_of items end
+    → end_behind items depth end ≡ end_behind items depth place
+    → (from < to) × (to ≤ length items) × (end_behind items depth to ≡ end_behind items depth place)
 end_leap items depth from end to place other after within below there same =
     let deep : depth < depth_at items end = omega (arith, depth_is items end other within) in
     let over = end_over items depth end within deep in
@@ -110,7 +129,11 @@ end_leap items depth from end to place other after within below there same =
     (omega arith, omega arith, ap (end_behind items depth) there ∙ sym over ∙ same)
 
 -- a leap over an item that says nothing
-pub value_leap : (items : List Item) (above from to : ℕ) (name : List ℕ) (one other : Item) (value : Option (List ℕ)) → from < length items → above < (get_or items from one).depth → None ≡ said_at (suc above) name (get_or items from other) → to ≡ end_of items from → value ≡ value_within above name (drop from items) → (from < to) × (to ≤ length items) × (value ≡ value_within above name (drop to items))
+pub value_leap : (items : List Item) (above from to : ℕ) (name : List ℕ) (one other : Item)
+    (value : Option (List ℕ)) → from < length items → above < (get_or items from one).depth
+    → None ≡ said_at (suc above) name (get_or items from other) → to ≡ end_of items from
+    → value ≡ value_within above name (drop from items)
+    → (from < to) × (to ≤ length items) × (value ≡ value_within above name (drop to items))
 value_leap items above from to name one other value within below none there same =
     let deep : above < depth_at items from = omega (arith, depth_is items from one within) in
     let here : said_at (suc above) name (get_or items from other) ≡ said_at (suc above) name (item_at items from) = ap (said_at (suc above) name) (get_or_default items from other _ within) in

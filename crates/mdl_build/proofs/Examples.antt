@@ -27,7 +27,9 @@ block depth type name more = section depth (codes "Block") ∷ bare (depth + 1) 
 
 -- a line between two blocks
 abbrev line : ℕ → List ℕ → List ℕ → List Item
-line depth from to = section depth (codes "Line") ∷ quoted (depth + 1) (codes "SrcBlock") from ∷ bare (depth + 1) (codes "SrcPort") (codes "1") ∷ quoted (depth + 1) (codes "DstBlock") to ∷ bare (depth + 1) (codes "DstPort") (codes "1") ∷ []
+line depth from to = section depth (codes "Line") ∷ quoted (depth + 1) (codes "SrcBlock") from
+    ∷ bare (depth + 1) (codes "SrcPort") (codes "1") ∷ quoted (depth + 1) (codes "DstBlock") to
+    ∷ bare (depth + 1) (codes "DstPort") (codes "1") ∷ []
 
 -- the model of one delay
 abbrev one : List Item
@@ -100,7 +102,9 @@ open_line_none : lines_of (one ++ (section 2 (codes "Line") ∷ quoted 3 (codes 
 open_line_none = refl
 
 -- a block of an unknown type inside a subsystem
-scope : library_fault (one ++ (block 2 (codes "SubSystem") (codes "S") (section 3 (codes "System") ∷ block 4 (codes "Scope") (codes "P") []))) ≡ Some (fault_of Rule.Library (codes "S/P") (Word (codes "Scope")))
+scope : library_fault (one ++ (block 2 (codes "SubSystem") (codes "S")
+    (section 3 (codes "System") ∷ block 4 (codes "Scope") (codes "P") [])))
+    ≡ Some (fault_of Rule.Library (codes "S/P") (Word (codes "Scope")))
 scope = refl
 
 -- a subsystem without a System

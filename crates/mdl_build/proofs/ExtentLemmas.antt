@@ -106,4 +106,6 @@ pub starts_within : (number : ℕ) (extents : List ℕ) → All (λ start. start
 starts_within number [] = All-nil (λ (start : ℕ). start ≤ number + 0)
 starts_within number (extent ∷ extents) =
     All-cons (λ (start : ℕ). start ≤ number + (extent + total extents)) number (starts (number + extent) extents) (omega arith)
-    (All-weaker (λ (start : ℕ). start ≤ (number + extent) + total extents) (λ (start : ℕ). start ≤ number + (extent + total extents)) (λ start h. omega (arith, h)) (starts (number + extent) extents) (starts_within (number + extent) extents))
+    (All-weaker (λ (start : ℕ). start ≤ (number + extent) + total extents)
+    (λ (start : ℕ). start ≤ number + (extent + total extents)) (λ start h. omega (arith, h))
+    (starts (number + extent) extents) (starts_within (number + extent) extents))

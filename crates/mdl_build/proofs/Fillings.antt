@@ -1,5 +1,6 @@
 -- What a filter stands for doesn't hang on what a list gives past its end.
-use Rattle.std.proofs.Common.{◌≡◌, ℕ, zero, suc, ◌+◌, ◌-◌, ◌<◌, ◌≤◌, Bool, true, false, cond, List, [], ◌∷◌, ◌++◌, length, map, get_or, Option, None, Some, inl, inr, refl, sym, ◌∙◌, ap, ap₂, true≢false, eqb-true, eq-eqb, arith}
+use Rattle.std.proofs.Common.{◌≡◌, ℕ, zero, suc, ◌+◌, ◌-◌, ◌<◌, ◌≤◌, Bool, true, false, cond, List, [], ◌∷◌, ◌++◌, length, map, get_or, Option, None, Some, inl, inr, refl, sym, ◌∙◌, ap, ap₂}
+use Rattle.std.proofs.Common.{true≢false, eqb-true, eq-eqb, arith}
 use Rattle.std.specs.Prelude.{◌==◌, All, codes, flat_map, zip}
 use Rattle.std.specs.List.{range_with_len}
 use Rattle.std.specs.Option.{ForSome}
@@ -51,7 +52,9 @@ module _ (one other : Decimal) where
   filling_same place None is = refl
   filling_same place (Some fir) is = ap (λ (blocks : List FirBlock). inner_blocks place (length blocks) 0 blocks) (blocks_same one other fir (is fir refl))
 
-  all_same : (numbers places : List ℕ) (drawn : List DrawnBlock) → All (λ block. ForSome block.filter IsFir) drawn → flat_map (with_filling one numbers) (zip places drawn) ≡ flat_map (with_filling other numbers) (zip places drawn)
+  all_same : (numbers places : List ℕ) (drawn : List DrawnBlock) → All (λ block. ForSome block.filter IsFir) drawn
+      → flat_map (with_filling one numbers) (zip places drawn)
+      ≡ flat_map (with_filling other numbers) (zip places drawn)
   all_same numbers [] [] are = refl
   all_same numbers [] (block ∷ drawn) are = refl
   all_same numbers (place ∷ places) [] are = refl

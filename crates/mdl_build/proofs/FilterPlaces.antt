@@ -34,7 +34,9 @@ inner_from place count number (first ∷ list) (suc k) block at =
     let same : number + 1 + k ≡ number + suc k = omega arith in
     record { inner = h.inner; there = h.there; is = h.is ∙ ap (λ (n : ℕ). inner_block place count n h.inner) same }
 
-inner_to : (place count number : ℕ) (list : List FirBlock) (k : ℕ) (inner : FirBlock) → slice_get list k ≡ Some inner → slice_get (inner_blocks place count number list) k ≡ Some (inner_block place count (number + k) inner)
+inner_to : (place count number : ℕ) (list : List FirBlock) (k : ℕ) (inner : FirBlock)
+    → slice_get list k ≡ Some inner → slice_get (inner_blocks place count number list) k
+    ≡ Some (inner_block place count (number + k) inner)
 inner_to place count number [] k inner at = absurd (none_some inner at)
 inner_to place count number (first ∷ list) zero inner at =
     let same : number ≡ number + 0 = omega arith in
@@ -173,26 +175,30 @@ module _ (counted : BlocksAreCounted) (other : Decimal) (numbers : List ℕ) whe
   abbrev Origin : ℕ → List DrawnBlock → ℕ → NestedBlock → Type 0
   Origin start drawn place block = FromDrawn numbers start drawn place block ⊎ FromFilter other start drawn place block
 
-  behind : (start : ℕ) (first : DrawnBlock) (drawn : List DrawnBlock) (place : ℕ) (block : NestedBlock) → (filter : Option Fir) → first.filter ≡ filter → ((fir : Fir) → filter ≡ Some fir → IsReadableFir fir)
+  behind : (start : ℕ) (first : DrawnBlock) (drawn : List DrawnBlock) (place : ℕ) (block : NestedBlock)
+      → (filter : Option Fir) → first.filter ≡ filter → ((fir : Fir) → filter ≡ Some fir → IsReadableFir fir)
       → ((k : ℕ) → slice_get (put_from other numbers (start + extent_of first.filter) drawn) k ≡ Some block → Origin (start + extent_of first.filter) drawn k block)
       → slice_get (filling other start filter ++ put_from other numbers (start + extent_of first.filter) drawn) place ≡ Some block → Origin start (first ∷ drawn) (suc place) block
   behind start first drawn place block None is firs again there = elim (again place there) [
     | inl h ↦ inl (later_drawn start first drawn place place block (omega (arith, ap extent_of is)) h)
     | inr h ↦ inr (later_inner start first drawn place place block (omega (arith, ap extent_of is)) h)
   ]
-  behind start first drawn place block (Some fir) is firs again there = elim (get_split (filling other start (Some fir)) (put_from other numbers (start + extent_of first.filter) drawn) place block there) [
-    | inl h ↦ inr (first_inner start first drawn fir place block is (inner_from start (length (blocks_of other fir)) 0 (blocks_of other fir) place block h))
-    | inr h ↦
-        let long = filling_long start fir (firs fir refl) in
-        let same : extent_of first.filter + h.k ≡ suc place = omega (arith, ap extent_of is, long, h.at) in
-        elim (again h.k h.there) [
-          | inl own ↦ inl (later_drawn start first drawn place h.k block same own)
-          | inr own ↦ inr (later_inner start first drawn place h.k block same own)
-        ]
-  ]
+  behind start first drawn place block (Some fir) is firs again there =
+      elim (get_split (filling other start (Some fir))
+      (put_from other numbers (start + extent_of first.filter) drawn) place block there) [
+        | inl h ↦ inr (first_inner start first drawn fir place block is (inner_from start (length (blocks_of other fir)) 0 (blocks_of other fir) place block h))
+        | inr h ↦
+            let long = filling_long start fir (firs fir refl) in
+            let same : extent_of first.filter + h.k ≡ suc place = omega (arith, ap extent_of is, long, h.at) in
+            elim (again h.k h.there) [
+              | inl own ↦ inl (later_drawn start first drawn place h.k block same own)
+              | inr own ↦ inr (later_inner start first drawn place h.k block same own)
+            ]
+      ]
 
   -- each block is one that is drawn, or one of a filter
-  pub origin : (start : ℕ) (drawn : List DrawnBlock) → AreFirs drawn → (place : ℕ) (block : NestedBlock) → slice_get (put_from other numbers start drawn) place ≡ Some block → Origin start drawn place block
+  pub origin : (start : ℕ) (drawn : List DrawnBlock) → AreFirs drawn → (place : ℕ) (block : NestedBlock)
+      → slice_get (put_from other numbers start drawn) place ≡ Some block → Origin start drawn place block
   origin start [] firs place block at = absurd (none_some block at)
   origin start (first ∷ drawn) firs zero block at =
       let e : start ≡ start + 0 = omega arith in
@@ -212,9 +218,15 @@ module _ (counted : BlocksAreCounted) (other : Decimal) (numbers : List ℕ) whe
         number = (let e : start ≡ start + 0 = omega arith in ap (λ (n : ℕ). Some n) e);
         there = refl;
         inners = λ fir i inner filter there.
-            let here : slice_get (filling other start (Some fir)) i ≡ Some (inner_block start (length (blocks_of other fir)) (0 + i) inner) = inner_to start (length (blocks_of other fir)) 0 (blocks_of other fir) i inner there in
-            let own_filling : slice_get (filling other start first.filter) i ≡ Some (inner_block start (length (blocks_of other fir)) (0 + i) inner) = ap (λ (f : Option Fir). slice_get (filling other start f) i) filter ∙ here in
-            let whole = get_left (filling other start first.filter) (put_from other numbers (start + extent_of first.filter) drawn) i (inner_block start (length (blocks_of other fir)) (0 + i) inner) own_filling in
+            let here : slice_get (filling other start (Some fir)) i
+            ≡ Some (inner_block start (length (blocks_of other fir)) (0 + i) inner) =
+            inner_to start (length (blocks_of other fir)) 0 (blocks_of other fir) i inner there in
+            let own_filling : slice_get (filling other start first.filter) i
+            ≡ Some (inner_block start (length (blocks_of other fir)) (0 + i) inner) =
+            ap (λ (f : Option Fir). slice_get (filling other start f) i) filter ∙ here in
+            let whole = get_left (filling other start first.filter)
+            (put_from other numbers (start + extent_of first.filter) drawn) i
+            (inner_block start (length (blocks_of other fir)) (0 + i) inner) own_filling in
             let e : 0 + i ≡ i = omega arith in
             let f : start ≡ start + 0 = omega arith in
             ap (λ (n : ℕ). slice_get (put_from other numbers start (first ∷ drawn)) (suc n)) e ∙ whole
@@ -226,7 +238,9 @@ module _ (counted : BlocksAreCounted) (other : Decimal) (numbers : List ℕ) whe
       let size = extent_is start first.filter (λ fir is. firs 0 first fir refl is) in
       let number : start + extent_of first.filter + h.place ≡ start + (extent_of first.filter + h.place) = omega arith in
       let past : (n : ℕ) → slice_get (put_from other numbers start (first ∷ drawn)) (extent_of first.filter + n) ≡ slice_get (put_from other numbers (start + extent_of first.filter) drawn) n =
-      λ n. get_right (moved_block numbers first.block ∷ filling other start first.filter) (put_from other numbers (start + extent_of first.filter) drawn) n (extent_of first.filter + n) (omega (arith, size)) in
+      λ n. get_right (moved_block numbers first.block ∷ filling other start first.filter)
+      (put_from other numbers (start + extent_of first.filter) drawn) n (extent_of first.filter + n)
+      (omega (arith, size)) in
       record {
         place = extent_of first.filter + h.place;
         number = h.number ∙ ap (λ (n : ℕ). Some n) number;

@@ -90,7 +90,8 @@ module _ (counted : BlocksAreCounted) (shaped : AreSoundBlocks) (other : Decimal
   -- what holds of each drawn block where it stands, and of each block of a filter, holds of all
   by_origin : (P : Option ℕ → Part → Type 0)
       → ((k : ℕ) (own : DrawnBlock) → slice_get drawn k ≡ Some own → P (option_map (moved numbers) own.block.parent) own.block.part)
-      → ((k : ℕ) (own : DrawnBlock) (fir : Fir) (n i : ℕ) (inner : FirBlock) → slice_get drawn k ≡ Some own → own.filter ≡ Some fir → slice_get numbers k ≡ Some n → slice_get (blocks_of other fir) i ≡ Some inner
+      → ((k : ℕ) (own : DrawnBlock) (fir : Fir) (n i : ℕ) (inner : FirBlock) → slice_get drawn k ≡ Some own
+      → own.filter ≡ Some fir → slice_get numbers k ≡ Some n → slice_get (blocks_of other fir) i ≡ Some inner
       → P (Some n) (inner_part (length (blocks_of other fir)) i inner.block))
       → All (λ block. P block.parent block.part) blocks
   by_origin P of_drawn of_filter = all_at (λ (b : NestedBlock). P b.parent b.part) blocks (λ place block at.
@@ -162,11 +163,15 @@ module _ (counted : BlocksAreCounted) (shaped : AreSoundBlocks) (other : Decimal
 
   pub sound_outs : All (λ block. HasOutRole blocks block.parent block.part) blocks
   sound_outs = by_origin (HasOutRole blocks)
-      (λ k own at. has_out_role drawn_blocks blocks own.block.parent (moved numbers) (same_enable k own at) own.block.part (own_holds (λ (b : NestedBlock). HasOutRole drawn_blocks b.parent b.part) are.sound.outs k own at))
+      (λ k own at. has_out_role drawn_blocks blocks own.block.parent (moved numbers)
+      (same_enable k own at) own.block.part
+      (own_holds (λ (b : NestedBlock). HasOutRole drawn_blocks b.parent b.part) are.sound.outs k own at))
       (λ k own fir n i inner at is number there.
       inner_by (HasOutRole blocks (Some n)) i (length (blocks_of other fir)) inner.block
       (λ first. tt)
-      (λ first last. subst (λ (b : FirBlock). HasOutRole blocks (Some n) (Part.Out b.block 1)) (sym (last_is other fir (sound_of k own fir at is) inner i last there)) (refl, no_port k n own fir at is number))
+      (λ first last. subst (λ (b : FirBlock). HasOutRole blocks (Some n) (Part.Out b.block 1))
+      (sym (last_is other fir (sound_of k own fir at is) inner i last there))
+      (refl, no_port k n own fir at is number))
       (λ first last. tt))
 
   -- ---- lines
@@ -196,7 +201,9 @@ module _ (counted : BlocksAreCounted) (shaped : AreSoundBlocks) (other : Decimal
         target = is.target;
       }
 
-  inner_joins : (k n : ℕ) (own : DrawnBlock) (fir : Fir) → slice_get drawn k ≡ Some own → own.filter ≡ Some fir → slice_get numbers k ≡ Some n → (edge : Edge) → Joins (n + 1) (length fir.coefficients) edge → JoinsWithin blocks (inner_line edge)
+  inner_joins : (k n : ℕ) (own : DrawnBlock) (fir : Fir) → slice_get drawn k ≡ Some own → own.filter ≡ Some fir
+      → slice_get numbers k ≡ Some n → (edge : Edge) → Joins (n + 1) (length fir.coefficients) edge
+      → JoinsWithin blocks (inner_line edge)
   inner_joins k n own fir at is number edge joins =
       let s = own_at counted other drawn lines are k own at in
       let same : s.place ≡ n = same_Some s.place n (sym s.number ∙ number) in
@@ -212,12 +219,15 @@ module _ (counted : BlocksAreCounted) (shaped : AreSoundBlocks) (other : Decimal
         target = (joins.to_port.0, omega (arith, joins.to_port.1));
       }
 
-  filter_joins : (k n : ℕ) (own : DrawnBlock) → slice_get drawn k ≡ Some own → slice_get numbers k ≡ Some n → (filter : Option Fir) → own.filter ≡ filter → All (JoinsWithin blocks) (filling_lines n filter)
+  filter_joins : (k n : ℕ) (own : DrawnBlock) → slice_get drawn k ≡ Some own → slice_get numbers k ≡ Some n
+      → (filter : Option Fir) → own.filter ≡ filter → All (JoinsWithin blocks) (filling_lines n filter)
   filter_joins k n own at number None is = λ j d within. absurd (omega (arith, within))
   filter_joins k n own at number (Some fir) is =
       let few = (are.filters k own fir at is).1.is_fir.coefficients in
       all_mapped (JoinsWithin blocks) inner_line (lines_of (n + 1) (length fir.coefficients)) (λ j edge there.
-      inner_joins k n own fir at is number edge (one_of (Joins (n + 1) (length fir.coefficients)) (lines_of (n + 1) (length fir.coefficients)) (edges_join (n + 1) (length fir.coefficients) few.0 few.1) j edge there))
+      inner_joins k n own fir at is number edge
+      (one_of (Joins (n + 1) (length fir.coefficients)) (lines_of (n + 1) (length fir.coefficients))
+      (edges_join (n + 1) (length fir.coefficients) few.0 few.1) j edge there))
 
   pub sound_lines : All (JoinsWithin blocks) (expanded_lines numbers drawn lines)
   sound_lines =

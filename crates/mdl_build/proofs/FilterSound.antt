@@ -1,6 +1,7 @@
 -- A model whose blocks and lines are well formed as they are drawn, and whose filters hold no blocks,
 -- is well formed where each filter is taken apart.
-use Rattle.std.proofs.Common.{◌≡◌, ◌≢◌, ℕ, zero, suc, ◌+◌, ◌<◌, Bool, true, false, cond, inl, inr, List, [], ◌∷◌, length, map, get_or, Option, Some, None, refl, sym, ◌∙◌, ap, subst, arith, eq-eqb, ne_eqb}
+use Rattle.std.proofs.Common.{◌≡◌, ◌≢◌, ℕ, zero, suc, ◌+◌, ◌<◌, Bool, true, false, cond, inl, inr, List, [], ◌∷◌, length, map, get_or, Option, Some, None, refl, sym, ◌∙◌, ap, subst, arith, eq-eqb}
+use Rattle.std.proofs.Common.{ne_eqb}
 use Rattle.std.specs.Prelude.{◌==◌, ◌⊎◌, AllPairs, slice_get, option_map, MatchOption}
 use Rattle.std.proofs.lemmas.Bool.{cases_order}
 use Rattle.std.proofs.lemmas.Option.{same_Some, slice_get-get_or, get_or_from_slice_get}
@@ -111,7 +112,9 @@ pub record SameEnable (drawn blocks : List NestedBlock) (parent : Option ℕ) (f
   pub on : (system : ℕ) → parent ≡ Some system → HasEnablePort drawn (Some system) → HasEnablePort blocks (Some (f system))
   pub off : (system : ℕ) → parent ≡ Some system → HasEnablePort blocks (Some (f system)) → HasEnablePort drawn (Some system)
 
-out_role : (drawn blocks : List NestedBlock) (parent : Option ℕ) (f : ℕ → ℕ) → SameEnable drawn blocks parent f → (number : ℕ) (role : Role) → IsOutRole drawn parent number role → IsOutRole blocks (option_map f parent) number role
+out_role : (drawn blocks : List NestedBlock) (parent : Option ℕ) (f : ℕ → ℕ) → SameEnable drawn blocks parent f
+    → (number : ℕ) (role : Role) → IsOutRole drawn parent number role
+    → IsOutRole blocks (option_map f parent) number role
 out_role drawn blocks None f same number (Role.RootInput own) is = absurd is
 out_role drawn blocks None f same number (Role.RootOutput own) is = is
 out_role drawn blocks None f same number (Role.InnerPort width) is = absurd is
@@ -125,7 +128,9 @@ out_role drawn blocks (Some system) f same number Role.EnabledOutput is = same.o
 out_role drawn blocks (Some system) f same number Role.Control is = absurd is
 out_role drawn blocks (Some system) f same number Role.Plain is = absurd is
 
-pub has_out_role : (drawn blocks : List NestedBlock) (parent : Option ℕ) (f : ℕ → ℕ) → SameEnable drawn blocks parent f → (part : Part) → HasOutRole drawn parent part → HasOutRole blocks (option_map f parent) part
+pub has_out_role : (drawn blocks : List NestedBlock) (parent : Option ℕ) (f : ℕ → ℕ)
+    → SameEnable drawn blocks parent f → (part : Part) → HasOutRole drawn parent part
+    → HasOutRole blocks (option_map f parent) part
 has_out_role drawn blocks parent f same (Part.Plain block) is = tt
 has_out_role drawn blocks parent f same (Part.In block number) is = tt
 has_out_role drawn blocks parent f same (Part.Out block number) is = out_role drawn blocks parent f same number (row_of block.kind).place.role is
@@ -192,7 +197,9 @@ module _ (counted : BlocksAreCounted) (other : Decimal) (drawn : List DrawnBlock
       record { held = from.0; there = from.1; before = h.0; is_sub = subst (λ (b : NestedBlock). IsSubSystem b.part) from.2 found.2 }
 
   -- the parent moves to a number that only it has
-  pub parent_back : (k : ℕ) (own : DrawnBlock) → slice_get drawn k ≡ Some own → (j n : ℕ) → slice_get numbers j ≡ Some n → (parent : Option ℕ) → own.block.parent ≡ parent → option_map (moved numbers) parent ≡ Some n → own.block.parent ≡ Some j
+  pub parent_back : (k : ℕ) (own : DrawnBlock) → slice_get drawn k ≡ Some own → (j n : ℕ)
+      → slice_get numbers j ≡ Some n → (parent : Option ℕ) → own.block.parent ≡ parent
+      → option_map (moved numbers) parent ≡ Some n → own.block.parent ≡ Some j
   parent_back k own at j n number None is moves = absurd (none_some n moves)
   parent_back k own at j n number (Some m) is moves =
       let h = holder k own at m is in
@@ -200,7 +207,10 @@ module _ (counted : BlocksAreCounted) (other : Decimal) (drawn : List DrawnBlock
       let same : m ≡ j = one_place m j s.place n s.number number (sym s.moves ∙ same_Some (moved numbers m) n moves) in
       is ∙ ap (λ (p : ℕ). Some p) same
 
-  parents_back : (j k : ℕ) (one two : DrawnBlock) → slice_get drawn j ≡ Some one → slice_get drawn k ≡ Some two → (parent : Option ℕ) → two.block.parent ≡ parent → option_map (moved numbers) one.block.parent ≡ option_map (moved numbers) parent → one.block.parent ≡ two.block.parent
+  parents_back : (j k : ℕ) (one two : DrawnBlock) → slice_get drawn j ≡ Some one → slice_get drawn k ≡ Some two
+      → (parent : Option ℕ) → two.block.parent ≡ parent
+      → option_map (moved numbers) one.block.parent ≡ option_map (moved numbers) parent
+      → one.block.parent ≡ two.block.parent
   parents_back j k one two here there None is same = by one.block.parent refl same ∙ sym is
     where
       by : (parent : Option ℕ) → one.block.parent ≡ parent → option_map (moved numbers) parent ≡ None → one.block.parent ≡ None
@@ -212,11 +222,15 @@ module _ (counted : BlocksAreCounted) (other : Decimal) (drawn : List DrawnBlock
       parent_back j one here m s.place s.number one.block.parent refl (same ∙ ap (λ (n : ℕ). Some n) s.moves) ∙ sym is
 
   -- no block stands in a filter as it is drawn
-  pub none_in : (k j n : ℕ) (own filter : DrawnBlock) (fir : Fir) → slice_get drawn k ≡ Some own → slice_get drawn j ≡ Some filter → filter.filter ≡ Some fir → slice_get numbers j ≡ Some n → option_map (moved numbers) own.block.parent ≡ Some n → ⊥
+  pub none_in : (k j n : ℕ) (own filter : DrawnBlock) (fir : Fir) → slice_get drawn k ≡ Some own
+      → slice_get drawn j ≡ Some filter → filter.filter ≡ Some fir → slice_get numbers j ≡ Some n
+      → option_map (moved numbers) own.block.parent ≡ Some n → ⊥
   none_in k j n own filter fir at there is number moves =
       are.bare j k filter own fir there is at (parent_back k own at j n number own.block.parent refl moves)
 
-  moved_parent : (k : ℕ) (own : DrawnBlock) → slice_get drawn k ≡ Some own → (place : ℕ) → slice_get numbers k ≡ Some place → (parent : Option ℕ) → own.block.parent ≡ parent → HasParent blocks place (option_map (moved numbers) parent)
+  moved_parent : (k : ℕ) (own : DrawnBlock) → slice_get drawn k ≡ Some own → (place : ℕ)
+      → slice_get numbers k ≡ Some place → (parent : Option ℕ) → own.block.parent ≡ parent
+      → HasParent blocks place (option_map (moved numbers) parent)
   moved_parent k own at place number None is = tt
   moved_parent k own at place number (Some m) is =
       let h = holder k own at m is in
@@ -236,7 +250,9 @@ module _ (counted : BlocksAreCounted) (other : Decimal) (drawn : List DrawnBlock
 
   pub sound_parents : (place : ℕ) (block : NestedBlock) → slice_get blocks place ≡ Some block → HasParent blocks place block.parent
   sound_parents place block at = elim (origin_of place block at) [
-    | inl h ↦ subst (HasParent blocks place) (sym (ap (λ (b : NestedBlock). b.parent) h.is)) (moved_parent h.k h.own h.there place (from_zero (slice_get numbers h.k) place h.number) h.own.block.parent refl)
+    | inl h ↦ subst (HasParent blocks place) (sym (ap (λ (b : NestedBlock). b.parent) h.is))
+        (moved_parent h.k h.own h.there place
+        (from_zero (slice_get numbers h.k) place h.number) h.own.block.parent refl)
     | inr h ↦ filter_parent place block h
   ]
 
@@ -290,13 +306,16 @@ module _ (counted : BlocksAreCounted) (other : Decimal) (drawn : List DrawnBlock
       let firs : h.fir ≡ g.fir = same_Some h.fir g.fir (sym h.filter ∙ ap (λ (b : DrawnBlock). b.filter) owns ∙ g.filter) in
       let before : h.i < g.i = omega (arith, less, h.at, g.at, start) in
       let there : slice_get (blocks_of other h.fir) g.i ≡ Some g.inner = ap (λ (f : Fir). slice_get (blocks_of other f) g.i) firs ∙ g.inner_there in
-      let apart = two_of (λ (a b : FirBlock). a.name ≢ b.name) (blocks_of other h.fir) (differ other h.fir (are.filters h.k h.own h.fir h.there h.filter).1.is_fir) h.i g.i h.inner g.inner before h.inner_there there in
+      let apart = two_of (λ (a b : FirBlock). a.name ≢ b.name) (blocks_of other h.fir)
+      (differ other h.fir (are.filters h.k h.own h.fir h.there h.filter).1.is_fir) h.i g.i h.inner g.inner
+      before h.inner_there there in
       apart (sym (ap (λ (b : NestedBlock). b.name) h.is) ∙ names ∙ ap (λ (b : NestedBlock). b.name) g.is)
 
   drawn_names : (i j : ℕ) (one two : NestedBlock) → i < j → FromDrawn numbers 0 drawn i one → FromDrawn numbers 0 drawn j two → HaveNames one two
   drawn_names i j one two less h g parents names =
       let before : h.k < g.k = in_order h.k g.k i j (from_zero (slice_get numbers h.k) i h.number) (from_zero (slice_get numbers g.k) j g.number) less in
-      let moves : option_map (moved numbers) h.own.block.parent ≡ option_map (moved numbers) g.own.block.parent = sym (ap (λ (b : NestedBlock). b.parent) h.is) ∙ parents ∙ ap (λ (b : NestedBlock). b.parent) g.is in
+      let moves : option_map (moved numbers) h.own.block.parent ≡ option_map (moved numbers) g.own.block.parent =
+      sym (ap (λ (b : NestedBlock). b.parent) h.is) ∙ parents ∙ ap (λ (b : NestedBlock). b.parent) g.is in
       two_of HaveNames drawn_blocks are.sound.names h.k g.k h.own.block g.own.block before (block_there h.k h.own h.there) (block_there g.k g.own g.there)
       (parents_back h.k g.k h.own g.own h.there g.there g.own.block.parent refl moves)
       (sym (ap (λ (b : NestedBlock). b.name) h.is) ∙ names ∙ ap (λ (b : NestedBlock). b.name) g.is)

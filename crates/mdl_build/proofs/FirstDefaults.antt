@@ -14,7 +14,9 @@ use Rattle.math_list.proofs.Places.{search_step}
 pub find_here : (P : ℕ → Bool) (from count : ℕ) (found : Option ℕ) → from < count → found ≡ find P (range_with_len from (count - from)) → P from ≡ true → Some from ≡ found
 find_here P from count found below same passes = sym (same ∙ search_step P from count below ∙ ap (λ (b : Bool). cond b (Some from) (find P (range_with_len (from + 1) (count - (from + 1))))) passes)
 
-pub find_behind : (P : ℕ → Bool) (from count : ℕ) (found : Option ℕ) → from < count → found ≡ find P (range_with_len from (count - from)) → P from ≡ false → found ≡ find P (range_with_len (from + 1) (count - (from + 1)))
+pub find_behind : (P : ℕ → Bool) (from count : ℕ) (found : Option ℕ) → from < count
+    → found ≡ find P (range_with_len from (count - from)) → P from ≡ false
+    → found ≡ find P (range_with_len (from + 1) (count - (from + 1)))
 find_behind P from count found below same fails = same ∙ search_step P from count below ∙ ap (λ (b : Bool). cond b (Some from) (find P (range_with_len (from + 1) (count - (from + 1))))) fails
 
 pub find_at_end : (P : ℕ → Bool) (from count : ℕ) (found : Option ℕ) → count ≤ from → found ≡ find P (range_with_len from (count - from)) → None ≡ found
@@ -38,11 +40,17 @@ find_none P [] fails = refl
 find_none P (place ∷ places) fails = find_none P places fails ∙ sym (ap (λ (b : Bool). cond b (Some place) (find P places)) (fails place))
 
 -- what the code asks of an item
-pub asks : (items : List Item) (roles : List Role) (block_type : BlockType) (section place : ℕ) (other : Role) → roles ≡ roles_of items → first_defaults items ≡ Some section → place < length items → has_defaults items block_type place ≡ (is_in (Some section) (get_or roles place other) && says items place (codes "BlockType") (type_name block_type))
+pub asks : (items : List Item) (roles : List Role) (block_type : BlockType) (section place : ℕ) (other : Role)
+    → roles ≡ roles_of items → first_defaults items ≡ Some section → place < length items
+    → has_defaults items block_type place
+    ≡ (is_in (Some section) (get_or roles place other)
+    && says items place (codes "BlockType") (type_name block_type))
 asks items roles block_type section place other known first within =
     ap (λ (s : Option ℕ). is_in s (role_of items place) && says items place (codes "BlockType") (type_name block_type)) first
     ∙ ap (λ (r : Role). is_in (Some section) r && says items place (codes "BlockType") (type_name block_type)) (sym (known_at (role_of items) roles (length items) place known within other))
 
 -- without a section of defaults no type has any
 pub none_without : (items : List Item) (block_type : BlockType) → None ≡ first_defaults items → None ≡ defaults_of items block_type
-none_without items block_type none = find_none (has_defaults items block_type) (range_with_len 0 (length items)) (λ place. ap (λ (s : Option ℕ). is_in s (role_of items place) && says items place (codes "BlockType") (type_name block_type)) (sym none))
+none_without items block_type none = find_none (has_defaults items block_type) (range_with_len 0 (length items))
+    (λ place. ap (λ (s : Option ℕ). is_in s (role_of items place)
+    && says items place (codes "BlockType") (type_name block_type)) (sym none))

@@ -36,17 +36,22 @@ branch_is (TypeDefaults section) line e = absurd (none-some line e)
 pub sources_long : (items : List Item) → length (sources_before items (length items)) ≡ length items
 sources_long items = length-map-range_with_len (λ (other : ℕ). source_if items other (branch_of (role_of items other))) 0 (length items)
 
-pub source_found : (items : List Item) (line : ℕ) (d : Option Source) → line < length items → role_of items line ≡ Branch line → get_or (sources_before items (length items)) line d ≡ source_of items line
+pub source_found : (items : List Item) (line : ℕ) (d : Option Source) → line < length items
+    → role_of items line ≡ Branch line → get_or (sources_before items (length items)) line d ≡ source_of items line
 source_found items line d below is =
     let f : 0 + line ≡ line = omega arith in
     get_or-map-range_with_len (λ (other : ℕ). source_if items other (branch_of (role_of items other))) 0 (length items) line line d below f
     ∙ ap (λ (role : Role). source_if items line (branch_of role)) is
     ∙ ap (λ (b : Bool). cond b (source_of items line) None) (eq-eqb line line refl)
 
-pub sources_next : (items : List Item) (place : ℕ) (source : Option Source) → source ≡ source_if items place (branch_of (role_of items place)) → sources_before items place ++ source ∷ [] ≡ sources_before items (place + 1)
+pub sources_next : (items : List Item) (place : ℕ) (source : Option Source)
+    → source ≡ source_if items place (branch_of (role_of items place))
+    → sources_before items place ++ source ∷ [] ≡ sources_before items (place + 1)
 sources_next items place source is =
     ap (λ (last : Option Source). sources_before items place ++ last ∷ []) is
-    ∙ sym (ap (map (λ (other : ℕ). source_if items other (branch_of (role_of items other)))) (range_next place) ∙ map-append (λ (other : ℕ). source_if items other (branch_of (role_of items other))) (range_with_len 0 place) (place ∷ []))
+    ∙ sym (ap (map (λ (other : ℕ). source_if items other (branch_of (role_of items other)))) (range_next place)
+    ∙ map-append (λ (other : ℕ). source_if items other (branch_of (role_of items other)))
+    (range_with_len 0 place) (place ∷ []))
 
 -- ---- one more item
 
@@ -54,7 +59,8 @@ one_line : (found : Option NestedLine) (lines : List NestedLine) → lines ++ fi
 one_line None lines = refl
 one_line (Some line) lines = refl
 
-pub lines_next : (items : List Item) (place : ℕ) (lines : List NestedLine) → lines ≡ lines_before items place → lines ++ line_list (line_at items place (role_of items place)) ≡ lines_before items (place + 1)
+pub lines_next : (items : List Item) (place : ℕ) (lines : List NestedLine) → lines ≡ lines_before items place
+    → lines ++ line_list (line_at items place (role_of items place)) ≡ lines_before items (place + 1)
 lines_next items place lines e =
     ap (λ (front : List NestedLine). front ++ line_list (line_at items place (role_of items place))) e
     ∙ sym (one_line (line_at items place (role_of items place)) (lines_before items place))

@@ -1,5 +1,6 @@
 -- The tables that blocks are made by, and the blocks that are made.
-use Rattle.std.proofs.Common.{◌≡◌, ◌≢◌, ℕ, zero, suc, ◌+◌, ◌<◌, ◌≤◌, ⊎_elim, Bool, true, false, cond, List, [], ◌∷◌, ◌++◌, length, filter, set, get_or, Option, Some, None, refl, sym, ap, subst, ◌∙◌, true≢false, arith}
+use Rattle.std.proofs.Common.{◌≡◌, ◌≢◌, ℕ, zero, suc, ◌+◌, ◌<◌, ◌≤◌, ⊎_elim, Bool, true, false, cond, List, [], ◌∷◌, ◌++◌, length, filter, set, get_or, Option, Some, None, refl, sym, ap, subst, ◌∙◌}
+use Rattle.std.proofs.Common.{true≢false, arith}
 use Rattle.std.specs.Prelude.{slice_get, is_some}
 use Rattle.std.specs.List.{range_with_len, AllZip}
 use Rattle.std.specs.Option.{unwrap_or}
@@ -71,13 +72,18 @@ module _ (items : List Item) where
 
 -- ---- where a block stands
 
-standing_is : (items : List Item) (parent found : Option ℕ) (system : ℕ) (b : Bool) → is_some parent ≡ true → found ≡ Some system → has_enable items system ≡ b → standing_in items parent found ≡ cond b Standing.Enabled Standing.Plain
+standing_is : (items : List Item) (parent found : Option ℕ) (system : ℕ) (b : Bool) → is_some parent ≡ true
+    → found ≡ Some system → has_enable items system ≡ b
+    → standing_in items parent found ≡ cond b Standing.Enabled Standing.Plain
 standing_is items None found system b e there is = absurd (true≢false (sym e))
 standing_is items (Some parent) found system b e there is =
     ap (standing_in items (Some parent)) there ∙ ap (λ (c : Bool). cond c Standing.Enabled Standing.Plain) is
 
 -- by what is read of the System that holds it
-pub standing_read : (items : List Item) (place : ℕ) (parent : Option ℕ) (system : ℕ) (enabled : List Bool) (own b : Bool) → is_some parent ≡ true → holder_of items place ≡ Some system → place < length items → AreEnabled items (blocks_of items) enabled → own ≡ get_or enabled system own → own ≡ b → standing_in items parent (holder_of items place) ≡ cond b Standing.Enabled Standing.Plain
+pub standing_read : (items : List Item) (place : ℕ) (parent : Option ℕ) (system : ℕ) (enabled : List Bool)
+    (own b : Bool) → is_some parent ≡ true → holder_of items place ≡ Some system → place < length items
+    → AreEnabled items (blocks_of items) enabled → own ≡ get_or enabled system own → own ≡ b
+    → standing_in items parent (holder_of items place) ≡ cond b Standing.Enabled Standing.Plain
 standing_read items place parent system enabled own b inner there within are read is =
     let before = holder_before items place system there in
     let below : system < length items = omega (arith, before, within) in
@@ -101,7 +107,9 @@ module _ (items : List Item) where
   pub none_made : AreMade items 0 []
   none_made = record { long = refl; each = λ k place less there. absurd (omega (arith, less)) }
 
-  pub made_next : (count place : ℕ) (blocks : List DrawnBlock) (block : DrawnBlock) → slice_get (blocks_of items) count ≡ Some place → AreMade items count blocks → IsDrawnAt items place block → AreMade items (count + 1) (blocks ++ block ∷ [])
+  pub made_next : (count place : ℕ) (blocks : List DrawnBlock) (block : DrawnBlock)
+      → slice_get (blocks_of items) count ≡ Some place → AreMade items count blocks → IsDrawnAt items place block
+      → AreMade items (count + 1) (blocks ++ block ∷ [])
   made_next count place blocks block at before is = record {
     long = length-append blocks (block ∷ []) ∙ ap (λ (n : ℕ). n + 1) before.long;
     each = λ k other less there.
@@ -116,7 +124,9 @@ module _ (items : List Item) where
   }
 
   -- one that can't be made is the first with a wrong parameter
-  pub wrong_first : (count place : ℕ) (block_type : BlockType) (blocks : List DrawnBlock) (fault : RuleFault) → slice_get (blocks_of items) count ≡ Some place → type_at items place ≡ Some block_type → AreMade items count blocks
+  pub wrong_first : (count place : ℕ) (block_type : BlockType) (blocks : List DrawnBlock) (fault : RuleFault)
+      → slice_get (blocks_of items) count ≡ Some place → type_at items place ≡ Some block_type
+      → AreMade items count blocks
       → IsWrongAt items block_type place fault → IsWrongFirst items fault
   wrong_first count place block_type blocks fault at typed before wrong = record {
     number = count;
@@ -134,7 +144,8 @@ module _ (items : List Item) where
     fault_is = wrong.fault_is;
   }
 
-pub zipped : {X Y : Type 0} (R : X → Y → Type 0) (xs : List X) (ys : List Y) → length ys ≡ length xs → ((k : ℕ) (x : X) → slice_get xs k ≡ Some x → (y : Y) × (slice_get ys k ≡ Some y) × R x y) → AllZip R xs ys
+pub zipped : {X Y : Type 0} (R : X → Y → Type 0) (xs : List X) (ys : List Y) → length ys ≡ length xs
+    → ((k : ℕ) (x : X) → slice_get xs k ≡ Some x → (y : Y) × (slice_get ys k ≡ Some y) × R x y) → AllZip R xs ys
 zipped R [] [] long each = tt
 zipped R [] (y ∷ ys) long each = absurd (omega (arith, long))
 zipped R (x ∷ xs) [] long each = absurd (omega (arith, long))

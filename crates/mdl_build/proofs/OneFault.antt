@@ -22,7 +22,8 @@ use Rattle.mdl_build.specs.Rules.{structure_fault, type_at, FindsStructure, IsFi
 use Rattle.mdl_build.specs.Settings.{unset, with_setting}
 use Rattle.mdl_build.proofs.ExtentLemmas.{one_extents}
 
-one_wrong : (items : List Item) (block_type : BlockType) (place : ℕ) (rows : List ParameterRow) (one other : List ℕ) → IsFirstWrong items block_type place rows one → IsFirstWrong items block_type place rows other → one ≡ other
+one_wrong : (items : List Item) (block_type : BlockType) (place : ℕ) (rows : List ParameterRow) (one other : List ℕ)
+    → IsFirstWrong items block_type place rows one → IsFirstWrong items block_type place rows other → one ≡ other
 one_wrong items block_type place rows one other is too = elim (cases_order is.number too.number) [
   | inl same ↦
       let row : is.parameter ≡ too.parameter = same_Some is.parameter too.parameter (sym is.there ∙ ap (slice_get rows) same ∙ too.there) in
@@ -38,10 +39,13 @@ one_first items one other is too = elim (cases_order is.number too.number) [
   | inl same ↦
       let place : is.place ≡ too.place = same_Some is.place too.place (sym is.there ∙ ap (slice_get (blocks_of items)) same ∙ too.there) in
       let type : is.block_type ≡ too.block_type = same_Some is.block_type too.block_type (sym is.type_is ∙ ap (type_at items) place ∙ too.type_is) in
-      let here : IsFirstWrong items is.block_type too.place (parameters_of is.block_type) is.name = subst (λ (p : ℕ). IsFirstWrong items is.block_type p (parameters_of is.block_type) is.name) place is.wrong in
+      let here : IsFirstWrong items is.block_type too.place (parameters_of is.block_type) is.name =
+      subst (λ (p : ℕ). IsFirstWrong items is.block_type p (parameters_of is.block_type) is.name) place
+      is.wrong in
       let wrong : IsFirstWrong items too.block_type too.place (parameters_of too.block_type) is.name = subst (λ (t : BlockType). IsFirstWrong items t too.place (parameters_of t) is.name) type here in
       is.fault_is
-      ∙ ap₂ (λ (p : ℕ) (name : List ℕ). fault_of Rule.Parameter (path_of items p) (Word name)) place (one_wrong items too.block_type too.place (parameters_of too.block_type) is.name too.name wrong too.wrong)
+      ∙ ap₂ (λ (p : ℕ) (name : List ℕ). fault_of Rule.Parameter (path_of items p) (Word name)) place
+      (one_wrong items too.block_type too.place (parameters_of too.block_type) is.name too.name wrong too.wrong)
       ∙ sym too.fault_is
   | inr differ ↦ elim differ [
     | inl less ↦ absurd (is.wrong.wrong (too.before is.number is.place is.block_type less is.there is.type_is is.wrong.number is.wrong.parameter is.wrong.there))
@@ -79,7 +83,9 @@ zip_there R (z ∷ xs) [] k x zip there = absurd zip
 zip_there {A} {B} R (z ∷ xs) (y ∷ ys) zero x zip there = (y, subst (λ (a : A). R a y) (same_Some z x there) zip.0)
 zip_there R (z ∷ xs) (y ∷ ys) (suc k) x zip there = zip_there R xs ys k x zip.1 there
 
-pub readable : (items : List Item) (block_type : BlockType) (place : ℕ) (rows : List ParameterRow) (before after : Settings) → AreRead items block_type place rows before after → (k : ℕ) (row : ParameterRow) → slice_get rows k ≡ Some row → IsReadable items block_type place row
+pub readable : (items : List Item) (block_type : BlockType) (place : ℕ) (rows : List ParameterRow)
+    (before after : Settings) → AreRead items block_type place rows before after → (k : ℕ) (row : ParameterRow)
+    → slice_get rows k ≡ Some row → IsReadable items block_type place row
 readable items block_type place [] before after read k row there = absurd (none-some row there)
 readable items block_type place (first ∷ rows) before after read zero row there = subst (λ (r : ParameterRow). IsReadable items block_type place r) (same_Some first row there) (read.0, read.1)
 readable items block_type place (first ∷ rows) before after read (suc k) row there = readable items block_type place rows (with_setting before read.0) after read.2 k row there

@@ -13,7 +13,8 @@ use Rattle.mdl_values.specs.Numbers.{IsNumberText}
 use Rattle.mdl_values.specs.Pieces.{pieces_at, two_of}
 use Rattle.mdl_values.specs.Types.{IsTypeText, named_type}
 use Rattle.mdl_build.specs.declared.library.BlockType.{BlockType}
-use Rattle.mdl_build.specs.declared.library.BlockType.TheVariants.{Inport, Outport, Constant, Ground, Terminator, Sum, Gain, Product, UnitDelay, Delay, Switch, RelationalOperator, Logic, DataTypeConversion, Mux, Demux, RateTransition, SubSystem, EnablePort, DiscreteFir}
+use Rattle.mdl_build.specs.declared.library.BlockType.TheVariants.{Inport, Outport, Constant, Ground, Terminator, Sum, Gain, Product, UnitDelay, Delay, Switch, RelationalOperator, Logic}
+use Rattle.mdl_build.specs.declared.library.BlockType.TheVariants.{DataTypeConversion, Mux, Demux, RateTransition, SubSystem, EnablePort, DiscreteFir}
 use Rattle.mdl_build.specs.declared.library.Reader.{Reader}
 use Rattle.mdl_build.specs.declared.settings.Setting.{Setting}
 use Rattle.mdl_build.specs.declared.settings.Settings.{Settings}
@@ -196,13 +197,17 @@ module _ (values : ValuesAreOne) where
       let same = values.sizes text sizes sizes' is.0 too.0 in
       (is.1 ∙ ap (λ (l : List ℕ). length l) same ∙ sym too.1, same)
 
-  one_conversion : (default text : List ℕ) → default ≢ codes "Stored Integer (SI)" → (one other : Setting) → ReadsAs [] Reader.Conversion default text one → ReadsAs [] Reader.Conversion default text other → one ≡ other
+  one_conversion : (default text : List ℕ) → default ≢ codes "Stored Integer (SI)" → (one other : Setting)
+      → ReadsAs [] Reader.Conversion default text one → ReadsAs [] Reader.Conversion default text other
+      → one ≡ other
   one_conversion default text apart one other (inl is) (inl too) = is.1 ∙ sym too.1
   one_conversion default text apart one other (inl is) (inr too) = absurd (apart (sym is.0 ∙ too.0))
   one_conversion default text apart one other (inr is) (inl too) = absurd (apart (sym too.0 ∙ is.0))
   one_conversion default text apart one other (inr is) (inr too) = is.1 ∙ sym too.1
 
-  reads_one : (gate : List ℕ) (reader : Reader) (default text : List ℕ) → IsClear reader default → (one other : Setting) → ReadsAs gate reader default text one → ReadsAs gate reader default text other → one ≡ other
+  reads_one : (gate : List ℕ) (reader : Reader) (default text : List ℕ) → IsClear reader default
+      → (one other : Setting) → ReadsAs gate reader default text one → ReadsAs gate reader default text other
+      → one ≡ other
   reads_one gate Reader.Default default text here one other is too = is.1 ∙ sym too.1
   reads_one gate Reader.Port default text here one other is too = is.2 ∙ ap Setting.Number (values.numbers 1 20000 text is.0 too.0 is.1 too.1) ∙ sym too.2
   reads_one gate Reader.Width default text here one other is too = is.2 ∙ ap Setting.Width (values.widths text is.0 too.0 is.1 too.1) ∙ sym too.2
@@ -239,7 +244,9 @@ module _ (values : ValuesAreOne) where
 
   -- ---- the settings of a block
 
-  rows_one : (items : List Item) (block_type : BlockType) (place : ℕ) (rows : List ParameterRow) → AreClear rows → (before one other : Settings) → AreRead items block_type place rows before one → AreRead items block_type place rows before other → one ≡ other
+  rows_one : (items : List Item) (block_type : BlockType) (place : ℕ) (rows : List ParameterRow) → AreClear rows
+      → (before one other : Settings) → AreRead items block_type place rows before one
+      → AreRead items block_type place rows before other → one ≡ other
   rows_one items block_type place [] here before one other is too = is ∙ sym too
   rows_one items block_type place (row ∷ rows) here before one other is too =
       let same = reads_one (first_text items block_type place (parameters_of block_type)) row.reader row.default (text_of items block_type place row) here.0 is.0 too.0 is.1 too.1 in

@@ -51,7 +51,9 @@ module _ (items : List Item) (block_type : BlockType) (place : ℕ) where
 
   -- one isn't read
   pub first_wrong : (number : ℕ) (row : ParameterRow) (settings : Settings) (name : List ℕ) → AreReadTo items block_type place number settings
-      → slice_get (parameters_of block_type) number ≡ Some row → ((setting : Setting) → ¬ IsRead items block_type place row setting) → name ≡ row.name → IsFirstWrong items block_type place (parameters_of block_type) name
+      → slice_get (parameters_of block_type) number ≡ Some row
+      → ((setting : Setting) → ¬ IsRead items block_type place row setting) → name ≡ row.name
+      → IsFirstWrong items block_type place (parameters_of block_type) name
   first_wrong number row settings name before at wrong name_is = record {
     number = number;
     parameter = row;
@@ -62,7 +64,9 @@ module _ (items : List Item) (block_type : BlockType) (place : ℕ) where
   }
 
   -- what is read of all is read of each
-  each_read : (rows : List ParameterRow) (before after : Settings) → AreRead items block_type place rows before after → (k : ℕ) (row : ParameterRow) → slice_get rows k ≡ Some row → IsReadable items block_type place row
+  each_read : (rows : List ParameterRow) (before after : Settings)
+      → AreRead items block_type place rows before after → (k : ℕ) (row : ParameterRow)
+      → slice_get rows k ≡ Some row → IsReadable items block_type place row
   each_read [] before after h k row at = absurd (none-some row at)
   each_read (first ∷ rows) before after h zero row at = subst (IsReadable items block_type place) (same_Some first row at) (h.0, h.1)
   each_read (first ∷ rows) before after h (suc k) row at = each_read rows (with_setting before h.0) after h.2 k row at
@@ -85,7 +89,9 @@ row_here items block_type place parameters defaults number p d rows texts below 
     let there : slice_get (parameters_of block_type) number ≡ Some row =
     ap (λ (list : List ParameterRow). slice_get list number) (sym rows) ∙ slice_get-map row_of parameters number ∙ ap (option_map row_of) (slice_get-get_or parameters number p below) in
     let long : length defaults ≡ length parameters =
-    sym (length-map defaults (λ (text : Bor (List ℕ)). text.now)) ∙ ap length texts ∙ length-map (parameters_of block_type) (fallback items block_type) ∙ sym (ap length rows) ∙ length-map parameters row_of in
+    sym (length-map defaults (λ (text : Bor (List ℕ)). text.now)) ∙ ap length texts
+    ∙ length-map (parameters_of block_type) (fallback items block_type) ∙ sym (ap length rows)
+    ∙ length-map parameters row_of in
     let inside : number < length defaults = omega (arith, long, below) in
     let own : Some (get_or defaults number d).now ≡ Some (fallback items block_type row) =
     sym (slice_get-map (λ (text : Bor (List ℕ)). text.now) defaults number ∙ ap (option_map (λ (text : Bor (List ℕ)). text.now)) (slice_get-get_or defaults number d inside))
@@ -94,14 +100,18 @@ row_here items block_type place parameters defaults number p d rows texts below 
 
 -- what it is read as
 pub read_some : (items : List Item) (block_type : BlockType) (place : ℕ) (row : ParameterRow) (gate : List ℕ) (text : List ℕ) (found : Option Setting) (setting : Setting)
-    → gate ≡ first_text items block_type place (parameters_of block_type) → text ≡ text_of items block_type place row → Finds (ReadsAs gate row.reader row.default text) found → found ≡ Some setting → IsRead items block_type place row setting
+    → gate ≡ first_text items block_type place (parameters_of block_type)
+    → text ≡ text_of items block_type place row → Finds (ReadsAs gate row.reader row.default text) found
+    → found ≡ Some setting → IsRead items block_type place row setting
 read_some items block_type place row gate text found setting gate_is text_is finds is =
     let here : Finds (ReadsAs gate row.reader row.default text) (Some setting) = subst (λ (f : Option Setting). Finds (ReadsAs gate row.reader row.default text) f) is finds in
     subst (λ (s : List ℕ). ReadsAs s row.reader row.default (text_of items block_type place row) setting) gate_is
     (subst (λ (t : List ℕ). ReadsAs gate row.reader row.default t setting) text_is here)
 
 pub read_none : (items : List Item) (block_type : BlockType) (place : ℕ) (row : ParameterRow) (gate : List ℕ) (text : List ℕ) (found : Option Setting)
-    → gate ≡ first_text items block_type place (parameters_of block_type) → text ≡ text_of items block_type place row → Finds (ReadsAs gate row.reader row.default text) found → found ≡ None → (setting : Setting) → ¬ IsRead items block_type place row setting
+    → gate ≡ first_text items block_type place (parameters_of block_type)
+    → text ≡ text_of items block_type place row → Finds (ReadsAs gate row.reader row.default text) found
+    → found ≡ None → (setting : Setting) → ¬ IsRead items block_type place row setting
 read_none items block_type place row gate text found gate_is text_is finds is setting read =
     let here : Finds (ReadsAs gate row.reader row.default text) None = subst (λ (f : Option Setting). Finds (ReadsAs gate row.reader row.default text) f) is finds in
     here setting (subst (λ (t : List ℕ). ReadsAs gate row.reader row.default t setting) (sym text_is)

@@ -19,7 +19,9 @@ some_gate : (a b : Gate) → ◌≡◌ {A = Option Gate} (Some a) (Some b) → a
 some_gate a b e = cc
 
 -- one of two gates, where both may have so many inputs
-of_two : (number : ℕ) (b : Bool) (one : Gate) (other : Option Gate) → HasOperands one number → ((gate : Gate) → other ≡ Some gate → HasOperands gate number) → (gate : Gate) → cond b (Some one) other ≡ Some gate → HasOperands gate number
+of_two : (number : ℕ) (b : Bool) (one : Gate) (other : Option Gate) → HasOperands one number
+    → ((gate : Gate) → other ≡ Some gate → HasOperands gate number) → (gate : Gate)
+    → cond b (Some one) other ≡ Some gate → HasOperands gate number
 of_two number true one other has rest gate e = subst (λ (g : Gate). HasOperands g number) (some_gate one gate e) has
 of_two number false one other has rest gate e = rest gate e
 
@@ -72,7 +74,9 @@ open_some : (sizes : List ℕ) (count : ℕ) → 1 ≤ length sizes → open_siz
 open_some [] count some = absurd (omega arith)
 open_some (size ∷ sizes) count some = refl
 
-pub demux_parts : (text : List ℕ) (count : ℕ) (sizes : List ℕ) → IsPartsText text count sizes → (count ≡ length (open_sizes count sizes)) × IsBetween 1 1024 (length (open_sizes count sizes)) × (All (IsBetween 1 1024) (open_sizes count sizes) ⊎ All (Only 0) (open_sizes count sizes))
+pub demux_parts : (text : List ℕ) (count : ℕ) (sizes : List ℕ) → IsPartsText text count sizes
+    → (count ≡ length (open_sizes count sizes)) × IsBetween 1 1024 (length (open_sizes count sizes))
+    × (All (IsBetween 1 1024) (open_sizes count sizes) ⊎ All (Only 0) (open_sizes count sizes))
 demux_parts text count sizes read = elim read [
   | inl number ↦
       let none = number.1 in

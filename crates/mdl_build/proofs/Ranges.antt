@@ -52,13 +52,17 @@ pub kept_within : (p : ℕ → Bool) (a n k place : ℕ) → slice_get (filter p
 kept_within p a zero k place at = absurd (none-some place at)
 kept_within p a (suc n) k place at = by (λ j there. let h = kept_within p (a + 1) n j place there in (omega (arith, h.0), omega (arith, h.1), h.2)) (p a) refl k at
   where
-    by : ((j : ℕ) → slice_get (filter p (range_with_len (a + 1) n)) j ≡ Some place → (a ≤ place) × (place < a + suc n) × (p place ≡ true)) → (b : Bool) → p a ≡ b → (j : ℕ) → slice_get (cond b (a ∷ filter p (range_with_len (a + 1) n)) (filter p (range_with_len (a + 1) n))) j ≡ Some place → (a ≤ place) × (place < a + suc n) × (p place ≡ true)
+    by : ((j : ℕ) → slice_get (filter p (range_with_len (a + 1) n)) j ≡ Some place
+        → (a ≤ place) × (place < a + suc n) × (p place ≡ true)) → (b : Bool) → p a ≡ b → (j : ℕ)
+        → slice_get (cond b (a ∷ filter p (range_with_len (a + 1) n)) (filter p (range_with_len (a + 1) n))) j
+        ≡ Some place → (a ≤ place) × (place < a + suc n) × (p place ≡ true)
     by deeper true e zero there = let same : a ≡ place = same_Some a place there in (omega (arith, same), omega (arith, same), ap p (sym same) ∙ e)
     by deeper true e (suc j) there = deeper j there
     by deeper false e j there = deeper j there
 
 -- it is found by its place
-place_from : (p : ℕ → Bool) (a n i k place : ℕ) → slice_get (filter p (range_with_len a n)) k ≡ Some place → position_from (λ (other : ℕ). other == place) i (filter p (range_with_len a n)) ≡ Some (i + k)
+place_from : (p : ℕ → Bool) (a n i k place : ℕ) → slice_get (filter p (range_with_len a n)) k ≡ Some place
+    → position_from (λ (other : ℕ). other == place) i (filter p (range_with_len a n)) ≡ Some (i + k)
 place_from p a zero i k place at = absurd (none-some place at)
 place_from p a (suc n) i k place at = by (λ start j there. place_from p (a + 1) n start j place there) (p a) k at
   where
@@ -102,7 +106,9 @@ from_push p i [] y = by (p y)
     by false = refl
 from_push p i (x ∷ xs) y = by (from_push p (i + 1) xs y) (p x)
   where
-    by : position_from p (i + 1) (xs ++ y ∷ []) ≡ pushed (p y) ((i + 1) + length xs) (position_from p (i + 1) xs) → (b : Bool) → cond b (Some i) (position_from p (i + 1) (xs ++ y ∷ [])) ≡ pushed (p y) (i + suc (length xs)) (cond b (Some i) (position_from p (i + 1) xs))
+    by : position_from p (i + 1) (xs ++ y ∷ []) ≡ pushed (p y) ((i + 1) + length xs) (position_from p (i + 1) xs)
+        → (b : Bool) → cond b (Some i) (position_from p (i + 1) (xs ++ y ∷ []))
+        ≡ pushed (p y) (i + suc (length xs)) (cond b (Some i) (position_from p (i + 1) xs))
     by rest true = refl
     by rest false = let f : (i + 1) + length xs ≡ i + suc (length xs) = omega arith in rest ∙ ap (λ (n : ℕ). pushed (p y) n (position_from p (i + 1) xs)) f
 

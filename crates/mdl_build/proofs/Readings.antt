@@ -13,7 +13,9 @@ pub found_same : {A : Type 0} (P Q : A → Type 0) (found : Option A) → ((valu
 found_same P Q None there back none = λ value given. none value (back value given)
 found_same P Q (Some value) there back given = there value given
 
-pub ok_found_same : {A E : Type 0} (P Q : A → Type 0) (result : Result (Option A) E) → ((value : A) → P value → Q value) → ((value : A) → Q value → P value) → IfOk result (λ found. Finds P found) → IfOk result (λ found. Finds Q found)
+pub ok_found_same : {A E : Type 0} (P Q : A → Type 0) (result : Result (Option A) E)
+    → ((value : A) → P value → Q value) → ((value : A) → Q value → P value) → IfOk result (λ found. Finds P found)
+    → IfOk result (λ found. Finds Q found)
 ok_found_same P Q (Ok found) there back given = found_same P Q found there back given
 ok_found_same P Q (Err fault) there back given = tt
 
@@ -21,13 +23,17 @@ ok_found_same P Q (Err fault) there back given = tt
 abbrev pub IsMadeBy : {A B : Type 0} → (A → Type 0) → (A → B) → B → Type 0
 IsMadeBy {A} P f made = (value : A) × P value × (made ≡ f value)
 
-pub found_in : {A B : Type 0} (P : A → Type 0) (f : A → B) (found : Option A) (made : Option B) → MatchOption found (made ≡ None) (λ value. IsSomeAnd made (λ other. other ≡ f value)) → Finds P found → Finds (IsMadeBy P f) made
+pub found_in : {A B : Type 0} (P : A → Type 0) (f : A → B) (found : Option A) (made : Option B)
+    → MatchOption found (made ≡ None) (λ value. IsSomeAnd made (λ other. other ≡ f value)) → Finds P found
+    → Finds (IsMadeBy P f) made
 found_in {A} {B} P f None made e none = subst (λ (o : Option B). Finds (IsMadeBy P f) o) (sym e) (λ other given. none given.0 given.1)
 found_in P f (Some value) None e is = absurd e
 found_in P f (Some value) (Some other) e is = (value, is, e)
 
 -- the same of a word in a table
-pub word_in : {A B : Type 0} (listed found : Option A) (f : A → B) (made : Option B) → MatchOption found (made ≡ None) (λ value. IsSomeAnd made (λ other. other ≡ f value)) → found ≡ listed → Finds (IsMadeBy (λ value. listed ≡ Some value) f) made
+pub word_in : {A B : Type 0} (listed found : Option A) (f : A → B) (made : Option B)
+    → MatchOption found (made ≡ None) (λ value. IsSomeAnd made (λ other. other ≡ f value)) → found ≡ listed
+    → Finds (IsMadeBy (λ value. listed ≡ Some value) f) made
 word_in {A} {B} listed found f made is e = found_in (λ value. listed ≡ Some value) f found made is (by found e)
   where
     by : (o : Option A) → o ≡ listed → Finds (λ value. listed ≡ Some value) o
@@ -35,7 +41,9 @@ word_in {A} {B} listed found f made is e = found_in (λ value. listed ≡ Some v
     by (Some value) e = sym e
 
 -- a reader and a default under other names
-pub reads_as : (gate : List ℕ) (reader reader' : Reader) (default default' text : List ℕ) (found : Option Setting) → reader ≡ reader' → default ≡ default' → Finds (ReadsAs gate reader default text) found → Finds (ReadsAs gate reader' default' text) found
+pub reads_as : (gate : List ℕ) (reader reader' : Reader) (default default' text : List ℕ) (found : Option Setting)
+    → reader ≡ reader' → default ≡ default' → Finds (ReadsAs gate reader default text) found
+    → Finds (ReadsAs gate reader' default' text) found
 reads_as gate reader reader' default default' text found same_reader same_default given =
     subst (λ (r : Reader). Finds (ReadsAs gate r default' text) found) same_reader
     (subst (λ (d : List ℕ). Finds (ReadsAs gate reader d text) found) same_default given)

@@ -1,5 +1,6 @@
 -- Where the roles of items come from, and what stands above a block.
-use Rattle.std.proofs.Common.{◌≡◌, ℕ, zero, suc, ◌+◌, ◌<◌, ◌≤◌, ◌⊎◌, inl, inr, ⊎_elim, Bool, true, false, cond, List, [], ◌++◌, length, Option, Some, None, refl, sym, ap, ◌∙◌, true≢false, eqb-true, get_or, arith}
+use Rattle.std.proofs.Common.{◌≡◌, ℕ, zero, suc, ◌+◌, ◌<◌, ◌≤◌, ◌⊎◌, inl, inr, ⊎_elim, Bool, true, false, cond, List, [], ◌++◌, length, Option, Some, None, refl, sym, ap, ◌∙◌, true≢false, eqb-true}
+use Rattle.std.proofs.Common.{get_or, arith}
 use Rattle.std.specs.Prelude.{◌==◌, nat_lt, codes, is_some}
 use Rattle.std.proofs.lemmas.List.FromFn.{length-map-range_with_len, get_or-map-range_with_len}
 use Rattle.std.proofs.lemmas.Option.{none-some, same_Some}
@@ -80,14 +81,24 @@ module _ (items : List Item) (holder place : ℕ) where
   -- what stands directly in a System alone is a block
   under_block : (role : Role) → is_block (role_under items holder role place) ≡ true → (level : ℕ) × (role ≡ System level)
   under_block Other e = absurd (true≢false (sym e))
-  under_block Model e = choose (λ r. is_block r ≡ true → (level : ℕ) × (Model ≡ System level)) (is_section_at items place (codes "System")) (System 1) (cond (is_section_at items place (codes "BlockParameterDefaults")) Defaults Other)
-      (λ n. absurd (true≢false (sym n))) (choose (λ r. is_block r ≡ true → (level : ℕ) × (Model ≡ System level)) (is_section_at items place (codes "BlockParameterDefaults")) Defaults Other (λ n. absurd (true≢false (sym n))) (λ n. absurd (true≢false (sym n)))) e
+  under_block Model e = choose (λ r. is_block r ≡ true → (level : ℕ) × (Model ≡ System level))
+      (is_section_at items place (codes "System")) (System 1)
+      (cond (is_section_at items place (codes "BlockParameterDefaults")) Defaults Other)
+      (λ n. absurd (true≢false (sym n))) (choose (λ r. is_block r ≡ true → (level : ℕ) × (Model ≡ System level))
+      (is_section_at items place (codes "BlockParameterDefaults")) Defaults Other
+      (λ n. absurd (true≢false (sym n))) (λ n. absurd (true≢false (sym n)))) e
   under_block (System level) e = (level, refl)
   under_block (Block level) e = absurd (true≢false (sym e))
-  under_block (SubSystem level) e = choose (λ r. is_block r ≡ true → (l : ℕ) × (SubSystem level ≡ System l)) (is_section_at items place (codes "System")) (System (deeper level)) Other (λ n. absurd (true≢false (sym n))) (λ n. absurd (true≢false (sym n))) e
+  under_block (SubSystem level) e = choose (λ r. is_block r ≡ true → (l : ℕ) × (SubSystem level ≡ System l))
+      (is_section_at items place (codes "System")) (System (deeper level)) Other (λ n. absurd (true≢false (sym n)))
+      (λ n. absurd (true≢false (sym n))) e
   under_block (Filter level) e = absurd (true≢false (sym e))
-  under_block (Branch line) e = choose (λ r. is_block r ≡ true → (l : ℕ) × (Branch line ≡ System l)) (is_section_at items place (codes "Branch")) (Branch line) Other (λ n. absurd (true≢false (sym n))) (λ n. absurd (true≢false (sym n))) e
-  under_block Defaults e = choose (λ r. is_block r ≡ true → (l : ℕ) × (Defaults ≡ System l)) (is_section_at items place (codes "Block")) (TypeDefaults holder) Other (λ n. absurd (true≢false (sym n))) (λ n. absurd (true≢false (sym n))) e
+  under_block (Branch line) e = choose (λ r. is_block r ≡ true → (l : ℕ) × (Branch line ≡ System l))
+      (is_section_at items place (codes "Branch")) (Branch line) Other (λ n. absurd (true≢false (sym n)))
+      (λ n. absurd (true≢false (sym n))) e
+  under_block Defaults e = choose (λ r. is_block r ≡ true → (l : ℕ) × (Defaults ≡ System l))
+      (is_section_at items place (codes "Block")) (TypeDefaults holder) Other (λ n. absurd (true≢false (sym n)))
+      (λ n. absurd (true≢false (sym n))) e
   under_block (TypeDefaults section) e = absurd (true≢false (sym e))
 
   abbrev BranchGoal : Role → ℕ → Type 0
@@ -96,16 +107,27 @@ module _ (items : List Item) (holder place : ℕ) where
   -- a branch is a line, or a branch of what it stands in
   under_branch : (line : ℕ) (role : Role) → role_under items holder role place ≡ Branch line → BranchGoal role line
   under_branch line Other e = cc
-  under_branch line Model e = choose (λ r. r ≡ Branch line → BranchGoal Model line) (is_section_at items place (codes "System")) (System 1) (cond (is_section_at items place (codes "BlockParameterDefaults")) Defaults Other)
+  under_branch line Model e = choose (λ r. r ≡ Branch line → BranchGoal Model line)
+      (is_section_at items place (codes "System")) (System 1)
+      (cond (is_section_at items place (codes "BlockParameterDefaults")) Defaults Other)
       (λ n. cc) (choose (λ r. r ≡ Branch line → BranchGoal Model line) (is_section_at items place (codes "BlockParameterDefaults")) Defaults Other (λ n. cc) (λ n. cc)) e
-  under_branch line (System level) e = choose (λ r. r ≡ Branch line → BranchGoal (System level) line) (is_section_at items place (codes "Block")) (block_role items level place) (cond (is_section_at items place (codes "Line")) (line_role items place) Other)
-      (choose (λ r. r ≡ Branch line → BranchGoal (System level) line) (says items place (codes "BlockType") (codes "SubSystem")) (SubSystem level) (cond (says items place (codes "BlockType") (codes "DiscreteFir")) (Filter level) (Block level)) (λ n. cc)
+  under_branch line (System level) e = choose (λ r. r ≡ Branch line → BranchGoal (System level) line)
+      (is_section_at items place (codes "Block")) (block_role items level place)
+      (cond (is_section_at items place (codes "Line")) (line_role items place) Other)
+      (choose (λ r. r ≡ Branch line → BranchGoal (System level) line)
+      (says items place (codes "BlockType") (codes "SubSystem")) (SubSystem level)
+      (cond (says items place (codes "BlockType") (codes "DiscreteFir")) (Filter level) (Block level))
+      (λ n. cc)
       (choose (λ r. r ≡ Branch line → BranchGoal (System level) line) (says items place (codes "BlockType") (codes "DiscreteFir")) (Filter level) (Block level) (λ n. cc) (λ n. cc)))
       (choose (λ r. r ≡ Branch line → BranchGoal (System level) line) (is_section_at items place (codes "Line")) (line_role items place) Other
-      (choose (λ r. r ≡ Branch line → BranchGoal (System level) line) (is_some (value_of items place (codes "SrcBlock"))) (Branch place) Other (λ n. let same : line ≡ place = cc in inl same) (λ n. cc))
+      (choose (λ r. r ≡ Branch line → BranchGoal (System level) line)
+      (is_some (value_of items place (codes "SrcBlock"))) (Branch place) Other
+      (λ n. let same : line ≡ place = cc in inl same) (λ n. cc))
       (λ n. cc)) e
   under_branch line (Block level) e = cc
-  under_branch line (SubSystem level) e = choose (λ r. r ≡ Branch line → BranchGoal (SubSystem level) line) (is_section_at items place (codes "System")) (System (deeper level)) Other (λ n. cc) (λ n. cc) e
+  under_branch line (SubSystem level) e =
+      choose (λ r. r ≡ Branch line → BranchGoal (SubSystem level) line) (is_section_at items place (codes "System"))
+      (System (deeper level)) Other (λ n. cc) (λ n. cc) e
   under_branch line (Filter level) e = cc
   under_branch line (Branch other) e = choose (λ r. r ≡ Branch line → BranchGoal (Branch other) line) (is_section_at items place (codes "Branch")) (Branch other) Other (λ n. inr n) (λ n. cc) e
   under_branch line Defaults e = choose (λ r. r ≡ Branch line → BranchGoal Defaults line) (is_section_at items place (codes "Block")) (TypeDefaults holder) Other (λ n. cc) (λ n. cc) e
@@ -117,16 +139,28 @@ module _ (items : List Item) (holder place : ℕ) where
   -- a System stands in the Model or in a subsystem
   under_system : (level : ℕ) (role : Role) → role_under items holder role place ≡ System level → SystemGoal role level
   under_system level Other e = cc
-  under_system level Model e = choose (λ r. r ≡ System level → SystemGoal Model level) (is_section_at items place (codes "System")) (System 1) (cond (is_section_at items place (codes "BlockParameterDefaults")) Defaults Other)
-      (λ n. let one : level ≡ 1 = cc in inl (refl, one)) (choose (λ r. r ≡ System level → SystemGoal Model level) (is_section_at items place (codes "BlockParameterDefaults")) Defaults Other (λ n. cc) (λ n. cc)) e
-  under_system level (System outer) e = choose (λ r. r ≡ System level → SystemGoal (System outer) level) (is_section_at items place (codes "Block")) (block_role items outer place) (cond (is_section_at items place (codes "Line")) (line_role items place) Other)
-      (choose (λ r. r ≡ System level → SystemGoal (System outer) level) (says items place (codes "BlockType") (codes "SubSystem")) (SubSystem outer) (cond (says items place (codes "BlockType") (codes "DiscreteFir")) (Filter outer) (Block outer)) (λ n. cc)
+  under_system level Model e = choose (λ r. r ≡ System level → SystemGoal Model level)
+      (is_section_at items place (codes "System")) (System 1)
+      (cond (is_section_at items place (codes "BlockParameterDefaults")) Defaults Other)
+      (λ n. let one : level ≡ 1 = cc in inl (refl, one))
+      (choose (λ r. r ≡ System level → SystemGoal Model level)
+      (is_section_at items place (codes "BlockParameterDefaults")) Defaults Other (λ n. cc) (λ n. cc)) e
+  under_system level (System outer) e = choose (λ r. r ≡ System level → SystemGoal (System outer) level)
+      (is_section_at items place (codes "Block")) (block_role items outer place)
+      (cond (is_section_at items place (codes "Line")) (line_role items place) Other)
+      (choose (λ r. r ≡ System level → SystemGoal (System outer) level)
+      (says items place (codes "BlockType") (codes "SubSystem")) (SubSystem outer)
+      (cond (says items place (codes "BlockType") (codes "DiscreteFir")) (Filter outer) (Block outer))
+      (λ n. cc)
       (choose (λ r. r ≡ System level → SystemGoal (System outer) level) (says items place (codes "BlockType") (codes "DiscreteFir")) (Filter outer) (Block outer) (λ n. cc) (λ n. cc)))
       (choose (λ r. r ≡ System level → SystemGoal (System outer) level) (is_section_at items place (codes "Line")) (line_role items place) Other
       (choose (λ r. r ≡ System level → SystemGoal (System outer) level) (is_some (value_of items place (codes "SrcBlock"))) (Branch place) Other (λ n. cc) (λ n. cc))
       (λ n. cc)) e
   under_system level (Block outer) e = cc
-  under_system level (SubSystem outer) e = choose (λ r. r ≡ System level → SystemGoal (SubSystem outer) level) (is_section_at items place (codes "System")) (System (deeper outer)) Other (λ n. let same : level ≡ deeper outer = cc in inr (outer, refl, same)) (λ n. cc) e
+  under_system level (SubSystem outer) e =
+      choose (λ r. r ≡ System level → SystemGoal (SubSystem outer) level)
+      (is_section_at items place (codes "System")) (System (deeper outer)) Other
+      (λ n. let same : level ≡ deeper outer = cc in inr (outer, refl, same)) (λ n. cc) e
   under_system level (Filter outer) e = cc
   under_system level (Branch line) e = choose (λ r. r ≡ System level → SystemGoal (Branch line) level) (is_section_at items place (codes "Branch")) (Branch line) Other (λ n. cc) (λ n. cc) e
   under_system level Defaults e = choose (λ r. r ≡ System level → SystemGoal Defaults level) (is_section_at items place (codes "Block")) (TypeDefaults holder) Other (λ n. cc) (λ n. cc) e
@@ -212,14 +246,17 @@ if_sub items holder parent (TypeDefaults section) r e = absurd (none-some parent
 pub parent_before : (items : List Item) (place parent : ℕ) → parent_of items place ≡ Some parent → (parent < place) × (is_block (role_of items parent) ≡ true)
 parent_before items place parent e = by (holder_of items place) refl e
   where
-    by_holder : (system : ℕ) → system < place → (found : Option ℕ) → holder_of items system ≡ found → holder_part items found ≡ Some parent → (parent < place) × (is_block (role_of items parent) ≡ true)
+    by_holder : (system : ℕ) → system < place → (found : Option ℕ) → holder_of items system ≡ found
+        → holder_part items found ≡ Some parent → (parent < place) × (is_block (role_of items parent) ≡ true)
     by_holder system less None there is = absurd (none-some parent is)
     by_holder system less (Some holder) there is =
         let h = if_sub items holder parent (role_of items holder) refl is in
         let before = holder_before items system holder there in
         (omega (arith, less, before, h.0), h.1)
 
-    by : (found : Option ℕ) → holder_of items place ≡ found → at None (λ system. holder_part items (holder_of items system)) found ≡ Some parent → (parent < place) × (is_block (role_of items parent) ≡ true)
+    by : (found : Option ℕ) → holder_of items place ≡ found
+        → at None (λ system. holder_part items (holder_of items system)) found ≡ Some parent
+        → (parent < place) × (is_block (role_of items parent) ≡ true)
     by None there is = absurd (none-some parent is)
     by (Some system) there is = by_holder system (holder_before items place system there) (holder_of items system) refl is
 

@@ -9,7 +9,9 @@ use Rattle.mdl_build.specs.Sections.{depth_at, holder_of, last_above}
 use Rattle.mdl_build.specs.inner.Layout.{depth_below}
 
 -- where the last item that is less deep is one less deep, its role decides
-pub role_found : (items : List Item) (place depth holder : ℕ) → depth_below (depth_at items place) ≡ Some depth → holder_of items place ≡ Some holder → depth_at items holder ≡ depth → role_under items holder (role_of items holder) place ≡ role_of items place
+pub role_found : (items : List Item) (place depth holder : ℕ) → depth_below (depth_at items place) ≡ Some depth
+    → holder_of items place ≡ Some holder → depth_at items holder ≡ depth
+    → role_under items holder (role_of items holder) place ≡ role_of items place
 role_found items place depth holder below held direct = by_depth (depth_at items place) refl below
   where
     by_depth : (d : ℕ) → depth_at items place ≡ d → depth_below d ≡ Some depth → role_under items holder (role_of items holder) place ≡ role_of items place

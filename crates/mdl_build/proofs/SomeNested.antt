@@ -42,7 +42,9 @@ type_of (Some x) not = (x, refl)
 
 -- all rows are read, or there is a first that isn't; the rows before these are read
 module _ (items : List Item) (block_type : BlockType) (place : ℕ) where
-  rest_wrong : (row : ParameterRow) (rows : List ParameterRow) → IsReadable items block_type place row → ((name : List ℕ) → IsFirstWrong items block_type place (row ∷ rows) name → ⊥) → (name : List ℕ) → IsFirstWrong items block_type place rows name → ⊥
+  rest_wrong : (row : ParameterRow) (rows : List ParameterRow) → IsReadable items block_type place row
+      → ((name : List ℕ) → IsFirstWrong items block_type place (row ∷ rows) name → ⊥) → (name : List ℕ)
+      → IsFirstWrong items block_type place rows name → ⊥
   rest_wrong row rows read none name is = none name (record {
     number = suc is.number;
     parameter = is.parameter;
@@ -55,7 +57,9 @@ module _ (items : List Item) (block_type : BlockType) (place : ℕ) where
     before zero other less there = subst (λ (r : ParameterRow). IsReadable items block_type place r) (same_Some row other there) read
     before (suc k) other less there = is.before k other (omega (arith, less)) there
 
-  rows_read : (rows : List ParameterRow) (before : Settings) → ((name : List ℕ) → IsFirstWrong items block_type place rows name → ⊥) → ((after : Settings) → AreRead items block_type place rows before after → ⊥) → ⊥
+  rows_read : (rows : List ParameterRow) (before : Settings)
+      → ((name : List ℕ) → IsFirstWrong items block_type place rows name → ⊥)
+      → ((after : Settings) → AreRead items block_type place rows before after → ⊥) → ⊥
   rows_read [] before none never = never before refl
   rows_read (row ∷ rows) before none never =
       none row.name (record {
@@ -72,7 +76,8 @@ module _ (items : List Item) (block_type : BlockType) (place : ℕ) where
 abbrev ReadBefore : List Item → ℕ → Type 0
 ReadBefore items number = (k other : ℕ) (block_type : BlockType) → k < number → slice_get (blocks_of items) k ≡ Some other → type_at items other ≡ Some block_type → AllRead items block_type other
 
-module _ (items : List Item) (extents : List ℕ) (structured : structure_fault extents items ≡ None) (known : library_fault items ≡ None) (none : (fault : RuleFault) → IsWrongFirst items fault → ⊥) where
+module _ (items : List Item) (extents : List ℕ) (structured : structure_fault extents items ≡ None)
+    (known : library_fault items ≡ None) (none : (fault : RuleFault) → IsWrongFirst items fault → ⊥) where
   abbrev drawn_with : ℕ → BlockType → List ℕ → Settings → DrawnBlock
   drawn_with place block_type name settings = record {
     block = record { name = name; parent = option_map (number_at items) (parent_of items place); part = part_of (standing_of items place) block_type settings };
@@ -80,7 +85,9 @@ module _ (items : List Item) (extents : List ℕ) (structured : structure_fault 
   }
 
   -- the blocks from a number on
-  from_number : (number : ℕ) (places : List ℕ) → ((k : ℕ) → slice_get places k ≡ slice_get (blocks_of items) (number + k)) → ReadBefore items number → ((blocks : List DrawnBlock) → AllZip (IsDrawnAt items) places blocks → ⊥) → ⊥
+  from_number : (number : ℕ) (places : List ℕ)
+      → ((k : ℕ) → slice_get places k ≡ slice_get (blocks_of items) (number + k)) → ReadBefore items number
+      → ((blocks : List DrawnBlock) → AllZip (IsDrawnAt items) places blocks → ⊥) → ⊥
   from_number number [] at before never = never [] tt
   from_number number (place ∷ places) at before never =
       let there : slice_get (blocks_of items) number ≡ Some place = sym (at 0 ∙ ap (slice_get (blocks_of items)) (omega arith)) in
@@ -119,7 +126,13 @@ module _ (values : ValuesAreOne) (shaped : AreSoundBlocks) (differ : NamesDiffer
       by extents are None structured (Some fault) known = none fault (inr (inl (record { structured = record { extents = extents; are_extents = are; finds = structured }; broken = known })))
       by extents are None structured None known =
           from_number tree.items extents structured known
-          (λ fault broken. none fault (inr (inr (record { structured = record { extents = extents; are_extents = are; finds = structured }; known = known; broken = broken })))) 0 (blocks_of tree.items)
+          (λ fault broken. none fault (inr (inr
+          (record {
+            structured = record { extents = extents; are_extents = are; finds = structured };
+            known =
+                known;
+            broken = broken;
+          })))) 0 (blocks_of tree.items)
           (λ k. ap (slice_get (blocks_of tree.items)) (omega arith)) (λ k other block_type less at_k type_k. absurd (omega (arith, less)))
           (λ drawn zip.
           let lines = lines_of tree.items in

@@ -55,7 +55,9 @@ only_blocks items [] (own ∷ drawn) all = absurd all
 only_blocks items (place ∷ places) [] all = absurd all
 only_blocks items (place ∷ places) (own ∷ drawn) all = (all.0.block, only_blocks items places drawn all.1)
 
-drawn_by : ValuesAreOne → (items : List Item) → IsKept items → (extents : List ℕ) (drawn : List DrawnBlock) (lines : List NestedLine) → AreExtents items extents → AreDrawn items extents drawn lines → IsDrawnModel extents drawn lines
+drawn_by : ValuesAreOne → (items : List Item) → IsKept items
+    → (extents : List ℕ) (drawn : List DrawnBlock) (lines : List NestedLine) → AreExtents items extents
+    → AreDrawn items extents drawn lines → IsDrawnModel extents drawn lines
 drawn_by values items known extents drawn lines counts are = record {
   sound = drawn_sound items known (map (λ (own : DrawnBlock). own.block) drawn) lines (only_blocks items (blocks_of items) drawn are.blocks) are.lines;
   extents_are = extents_zip values items drawn extents are.blocks counts;
@@ -66,12 +68,15 @@ drawn_by values items known extents drawn lines counts are = record {
   bare = filters_bare items drawn are.blocks;
 }
 
-pub drawn_model : ValuesAreOne → (items : List Item) (extents : List ℕ) (drawn : List DrawnBlock) (lines : List NestedLine) → AreExtents items extents → AreDrawn items extents drawn lines → IsDrawnModel extents drawn lines
+pub drawn_model : ValuesAreOne → (items : List Item) (extents : List ℕ) (drawn : List DrawnBlock)
+    (lines : List NestedLine) → AreExtents items extents → AreDrawn items extents drawn lines
+    → IsDrawnModel extents drawn lines
 drawn_model values items extents drawn lines counts are = drawn_by values items (kept items extents counts are.structured) extents drawn lines counts are
 
 -- and where each filter is taken apart
 pub sound : ValuesAreOne → AreSoundBlocks → NamesDiffer → BlocksAreCounted → (tree : Tree) (nested : Nested) → IsNestedOf tree nested → IsSound nested
 sound values shaped differ counted tree nested is =
     let are : AreDrawn tree.items is.extents is.drawn (lines_of tree.items) = record { structured = is.structured; known = is.known; blocks = is.are_drawn; lines = refl } in
-    let whole = expanded_sound shaped differ counted zero_decimal is.extents is.drawn (lines_of tree.items) (drawn_model values tree.items is.extents is.drawn (lines_of tree.items) is.are_extents are) in
+    let whole = expanded_sound shaped differ counted zero_decimal is.extents is.drawn (lines_of tree.items)
+    (drawn_model values tree.items is.extents is.drawn (lines_of tree.items) is.are_extents are) in
     subst IsSound (λ i. record { blocks = sym (is.blocks zero_decimal) i; lines = sym is.lines i }) whole

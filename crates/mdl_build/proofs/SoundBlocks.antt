@@ -41,7 +41,8 @@ some_and : {A : Type 0} (found : Option A) (P : A → Type 0) → IsSomeAnd foun
 some_and None P h = absurd h
 some_and (Some x) P h = (x, refl, h)
 
-pub block_here : (items : List Item) (blocks : List NestedBlock) → AllZip (IsBlockAt items) (blocks_of items) blocks → (number : ℕ) (block : NestedBlock) → slice_get blocks number ≡ Some block → BlockHere items number block
+pub block_here : (items : List Item) (blocks : List NestedBlock) → AllZip (IsBlockAt items) (blocks_of items) blocks
+    → (number : ℕ) (block : NestedBlock) → slice_get blocks number ≡ Some block → BlockHere items number block
 block_here items blocks zip number block there =
     let found = some_and (slice_get (blocks_of items) number) _ (match_some (slice_get blocks number) _ (AllZip-right (IsBlockAt items) (blocks_of items) blocks zip number) block there) in
     let own = block_of items number found.0 found.1 in
@@ -51,7 +52,10 @@ block_here items blocks zip number block there =
     match_some None Q h y e = let bad : ◌≡◌ {A = Option NestedBlock} None (Some y) = e in absurd (cc)
     match_some (Some x) Q h y e = let both : ◌≡◌ {A = Option NestedBlock} (Some x) (Some y) = e in let same : x ≡ y = cc in subst Q same h
 
-pub block_there : (items : List Item) (blocks : List NestedBlock) → AllZip (IsBlockAt items) (blocks_of items) blocks → (number place : ℕ) → slice_get (blocks_of items) number ≡ Some place → (block : NestedBlock) × (slice_get blocks number ≡ Some block) × IsBlockAt items place block
+pub block_there : (items : List Item) (blocks : List NestedBlock)
+    → AllZip (IsBlockAt items) (blocks_of items) blocks → (number place : ℕ)
+    → slice_get (blocks_of items) number ≡ Some place
+    → (block : NestedBlock) × (slice_get blocks number ≡ Some block) × IsBlockAt items place block
 block_there items blocks zip number place there =
     some_and (slice_get blocks number) _ (match_some (slice_get (blocks_of items) number) _ (AllZip-left (IsBlockAt items) (blocks_of items) blocks zip number) place there)
   where
@@ -105,16 +109,23 @@ not_said items place is = by_test (says items place (codes "BlockType") (codes "
     by_test false said = said
 
 -- a filter's role
-pub fir_role : (items : List Item) (place : ℕ) (block : NestedBlock) → (s : Stand items place) → is_block (role_of items place) ≡ true → (here : IsBlockAt items place block) → here.block_type ≡ FirType → role_of items place ≡ Filter s.level
+pub fir_role : (items : List Item) (place : ℕ) (block : NestedBlock) → (s : Stand items place)
+    → is_block (role_of items place) ≡ true → (here : IsBlockAt items place block) → here.block_type ≡ FirType
+    → role_of items place ≡ Filter s.level
 fir_role items place block s counts here is =
     let type_is : type_at items place ≡ Some FirType = here.type_is ∙ ap (λ (t : BlockType). Some t) is in
     let said : says items place (codes "BlockType") (codes "DiscreteFir") ≡ true = type_says items place FirType type_is in
-    s.role_is ∙ pick_filter (is_section_at items place (codes "Block")) _ _ (is_section_at items place (codes "Line")) (is_some (value_of items place (codes "SrcBlock"))) s.level place (sym (ap is_block s.role_is) ∙ counts) (not_said items place type_is) said
+    s.role_is ∙ pick_filter (is_section_at items place (codes "Block")) _ _
+    (is_section_at items place (codes "Line")) (is_some (value_of items place (codes "SrcBlock"))) s.level place
+    (sym (ap is_block s.role_is) ∙ counts) (not_said items place type_is) said
 
 -- and the other way round
-pub role_fir : (items : List Item) (place outer : ℕ) (block : NestedBlock) → (s : Stand items place) → role_of items place ≡ Filter outer → (here : IsBlockAt items place block) → here.block_type ≡ FirType
+pub role_fir : (items : List Item) (place outer : ℕ) (block : NestedBlock) → (s : Stand items place)
+    → role_of items place ≡ Filter outer → (here : IsBlockAt items place block) → here.block_type ≡ FirType
 role_fir items place outer block s is here =
-    let said : says items place (codes "BlockType") (codes "DiscreteFir") ≡ true = pick_fir (is_section_at items place (codes "Block")) _ _ (is_section_at items place (codes "Line")) (is_some (value_of items place (codes "SrcBlock"))) s.level place outer (sym s.role_is ∙ is) in
+    let said : says items place (codes "BlockType") (codes "DiscreteFir") ≡ true =
+    pick_fir (is_section_at items place (codes "Block")) _ _ (is_section_at items place (codes "Line"))
+    (is_some (value_of items place (codes "SrcBlock"))) s.level place outer (sym s.role_is ∙ is) in
     says_type items place here.block_type FirType here.type_is said refl
 
 -- a block whose part is a subsystem has that role, or is a filter
@@ -127,20 +138,27 @@ sub_role items number block h is =
     elim (sub_system_type (standing_of items h.place) h.here.block_type h.here.settings part_is) [
       | inl type_is ↦
           let said : says items h.place (codes "BlockType") (codes "SubSystem") ≡ true = type_says items h.place SubSystemType (h.here.type_is ∙ ap (λ (t : BlockType). Some t) type_is) in
-          inl (h.stands.role_is ∙ pick_sub (is_section_at items h.place (codes "Block")) _ _ (is_section_at items h.place (codes "Line")) (is_some (value_of items h.place (codes "SrcBlock"))) h.stands.level h.place (sym (ap is_block h.stands.role_is) ∙ h.counts) said)
+          inl (h.stands.role_is ∙ pick_sub (is_section_at items h.place (codes "Block")) _ _
+          (is_section_at items h.place (codes "Line"))
+          (is_some (value_of items h.place (codes "SrcBlock"))) h.stands.level h.place
+          (sym (ap is_block h.stands.role_is) ∙ h.counts) said)
       | inr type_is ↦ inr (fir_role items h.place block h.stands h.counts h.here type_is)
     ]
 
 -- and the other way round
 pub role_sub : (items : List Item) (place outer : ℕ) (block : NestedBlock) → (s : Stand items place) → role_of items place ≡ SubSystem outer → IsBlockAt items place block → IsSubSystem block.part
 role_sub items place outer block s is here =
-    let said : says items place (codes "BlockType") (codes "SubSystem") ≡ true = pick_says (is_section_at items place (codes "Block")) _ _ (is_section_at items place (codes "Line")) (is_some (value_of items place (codes "SrcBlock"))) s.level place outer (sym s.role_is ∙ is) in
+    let said : says items place (codes "BlockType") (codes "SubSystem") ≡ true =
+    pick_says (is_section_at items place (codes "Block")) _ _ (is_section_at items place (codes "Line"))
+    (is_some (value_of items place (codes "SrcBlock"))) s.level place outer (sym s.role_is ∙ is) in
     let type_is : here.block_type ≡ SubSystemType = says_type items place here.block_type SubSystemType here.type_is said refl in
     subst IsSubSystem (sym here.part) (subst (λ (t : BlockType). IsSubSystem (part_of (standing_of items place) t here.settings)) (sym type_is) tt)
 
 -- ---- parents
 
-pub has_parent : (items : List Item) (blocks : List NestedBlock) → AllZip (IsBlockAt items) (blocks_of items) blocks → (number : ℕ) (block : NestedBlock) → slice_get blocks number ≡ Some block → HasParent blocks number block.parent
+pub has_parent : (items : List Item) (blocks : List NestedBlock) → AllZip (IsBlockAt items) (blocks_of items) blocks
+    → (number : ℕ) (block : NestedBlock) → slice_get blocks number ≡ Some block
+    → HasParent blocks number block.parent
 has_parent items blocks zip number block there =
     let h = block_here items blocks zip number block there in
     elim h.stands.cases [

@@ -93,14 +93,18 @@ module _ (items : List Item) (drawn : List DrawnBlock) (all : AllZip (IsDrawnAt 
 
 -- ---- extents
 
-extent_is : ValuesAreOne → (items : List Item) (place : ℕ) (own : DrawnBlock) (size : ℕ) → is_block (role_of items place) ≡ true → IsDrawnAt items place own → IsExtentAt items place size → size ≡ extent_of own.filter
+extent_is : ValuesAreOne → (items : List Item) (place : ℕ) (own : DrawnBlock) (size : ℕ)
+    → is_block (role_of items place) ≡ true → IsDrawnAt items place own → IsExtentAt items place size
+    → size ≡ extent_of own.filter
 extent_is values items place own size counts here is = by (role_of items place) refl is
   where
     s : Stand items place
     s = stand items place counts
 
     plain : size ≡ 1 → ((level : ℕ) → role_of items place ≡ Filter level → ⊥) → size ≡ extent_of own.filter
-    plain one other = one ∙ sym (ap extent_of (here.filter ∙ no_filter own.block.name here.block.block_type here.block.settings (λ type. other (s.level) (fir_role items place own.block s counts here.block type))))
+    plain one other = one ∙ sym (ap extent_of
+        (here.filter ∙ no_filter own.block.name here.block.block_type here.block.settings
+        (λ type. other (s.level) (fir_role items place own.block s counts here.block type))))
 
     by : (role : Role) → role_of items place ≡ role → IsExtentOf items place role size → size ≡ extent_of own.filter
     by (Filter level) role x =
@@ -108,7 +112,9 @@ extent_is values items place own size counts here is = by (role_of items place) 
         let are = taps_are items place here.block.settings (settings_are items place own here type) in
         let filter = here.filter ∙ ap (λ (t : BlockType). filter_of own.block.name t here.block.settings) type in
         elim x [
-          | inl read ↦ read.2 ∙ ap (λ (list : List Decimal). extent (length list)) (values.lists (text_of items FirType place taps) read.0 here.block.settings.list read.1.list are.list) ∙ sym (ap extent_of filter)
+          | inl read ↦ read.2 ∙ ap (λ (list : List Decimal). extent (length list))
+              (values.lists (text_of items FirType place taps) read.0 here.block.settings.list read.1.list are.list)
+              ∙ sym (ap extent_of filter)
           | inr none ↦ absurd (none.0 here.block.settings.list are)
         ]
     by Other role x = plain x (λ level f. let bad : Other ≡ Filter level = sym role ∙ f in cc)
@@ -120,7 +126,9 @@ extent_is values items place own size counts here is = by (role_of items place) 
     by Defaults role x = plain x (λ level f. let bad : Defaults ≡ Filter level = sym role ∙ f in cc)
     by (TypeDefaults section) role x = plain x (λ level f. let bad : TypeDefaults section ≡ Filter level = sym role ∙ f in cc)
 
-zip_extents : ValuesAreOne → (items : List Item) (places : List ℕ) (drawn : List DrawnBlock) (extents : List ℕ) → ((k place : ℕ) → slice_get places k ≡ Some place → is_block (role_of items place) ≡ true) → AllZip (IsDrawnAt items) places drawn → AllZip (IsExtentAt items) places extents
+zip_extents : ValuesAreOne → (items : List Item) (places : List ℕ) (drawn : List DrawnBlock) (extents : List ℕ)
+    → ((k place : ℕ) → slice_get places k ≡ Some place → is_block (role_of items place) ≡ true)
+    → AllZip (IsDrawnAt items) places drawn → AllZip (IsExtentAt items) places extents
     → AllZip (λ (own : DrawnBlock) (size : ℕ). size ≡ extent_of own.filter) drawn extents
 zip_extents values items [] [] [] counts here are = tt
 zip_extents values items [] [] (size ∷ extents) counts here are = absurd are

@@ -99,17 +99,25 @@ named_block items system name number e =
     by_test place holder true t there f = there ∙ ap Some (eqb-true holder system t)
     by_test place holder false t there f = absurd (true≢false (sym f))
 
-    by_holder : (found : Option ℕ) → holder_of items (get_or (blocks_of items) number 0) ≡ found → is_named_in items system name (get_or (blocks_of items) number 0) ≡ true → holder_of items (get_or (blocks_of items) number 0) ≡ Some system
-    by_holder None there f = absurd (true≢false (sym (sym (ap (λ (o : Option ℕ). elim o [ None ↦ false | Some holder ↦ holder == system ] && says items (get_or (blocks_of items) number 0) (codes "Name") name) there) ∙ f)))
+    by_holder : (found : Option ℕ) → holder_of items (get_or (blocks_of items) number 0) ≡ found
+        → is_named_in items system name (get_or (blocks_of items) number 0) ≡ true
+        → holder_of items (get_or (blocks_of items) number 0) ≡ Some system
+    by_holder None there f = absurd (true≢false
+        (sym (sym (ap (λ (o : Option ℕ). elim o [ None ↦ false | Some holder ↦ holder == system ]
+        && says items (get_or (blocks_of items) number 0) (codes "Name") name) there) ∙ f)))
     by_holder (Some holder) there f =
         by_test (get_or (blocks_of items) number 0) holder (holder == system) refl there
         (sym (ap (λ (o : Option ℕ). elim o [ None ↦ false | Some other ↦ other == system ] && says items (get_or (blocks_of items) number 0) (codes "Name") name) there) ∙ f)
 
-named_by_block : (items : List Item) (line : ℕ) (name : Option (List ℕ)) (number : ℕ) → named_by items line name ≡ Some number → (system : ℕ) × (holder_of items line ≡ Some system) × IsNamedBlock items system number
+named_by_block : (items : List Item) (line : ℕ) (name : Option (List ℕ)) (number : ℕ)
+    → named_by items line name ≡ Some number
+    → (system : ℕ) × (holder_of items line ≡ Some system) × IsNamedBlock items system number
 named_by_block items line None number e = absurd (none-some number e)
 named_by_block items line (Some name) number e = by (holder_of items line) refl e
   where
-    by : (found : Option ℕ) → holder_of items line ≡ found → at None (λ system. number_of items system name) found ≡ Some number → (system : ℕ) × (holder_of items line ≡ Some system) × IsNamedBlock items system number
+    by : (found : Option ℕ) → holder_of items line ≡ found
+        → at None (λ system. number_of items system name) found ≡ Some number
+        → (system : ℕ) × (holder_of items line ≡ Some system) × IsNamedBlock items system number
     by None there f = absurd (none-some number f)
     by (Some system) there f = (system, there, named_block items system name number f)
 
@@ -122,8 +130,13 @@ port_between (Some text) port e = by (is_port text) refl e
     by : (b : Bool) → is_port text ≡ b → cond b (Some (digits_value 10 text)) None ≡ Some port → IsBetween 1 20000 port
     by true t f =
         let same : digits_value 10 text ≡ port = same_Some (digits_value 10 text) port f in
-        let high = leb-true (digits_value 10 text) 20000 (right_true (nat_lt 0 (length text) && list_all is_ascii_digit text && nat_le 1 (digits_value 10 text)) (nat_le (digits_value 10 text) 20000) t) in
-        let low = leb-true 1 (digits_value 10 text) (right_true (nat_lt 0 (length text) && list_all is_ascii_digit text) (nat_le 1 (digits_value 10 text)) (left_true (nat_lt 0 (length text) && list_all is_ascii_digit text && nat_le 1 (digits_value 10 text)) (nat_le (digits_value 10 text) 20000) t)) in
+        let high = leb-true (digits_value 10 text) 20000
+        (right_true (nat_lt 0 (length text) && list_all is_ascii_digit text && nat_le 1 (digits_value 10 text))
+        (nat_le (digits_value 10 text) 20000) t) in
+        let low = leb-true 1 (digits_value 10 text)
+        (right_true (nat_lt 0 (length text) && list_all is_ascii_digit text) (nat_le 1 (digits_value 10 text))
+        (left_true (nat_lt 0 (length text) && list_all is_ascii_digit text
+        && nat_le 1 (digits_value 10 text)) (nat_le (digits_value 10 text) 20000) t)) in
         (omega (arith, same, low), omega (arith, same, high))
     by false t f = absurd (none-some port f)
 
@@ -151,7 +164,9 @@ source_parts : (items : List Item) (line : ℕ) (source : Source) → source_of 
 source_parts items line source e =
     by (named_by items line (value_of items line (codes "SrcBlock"))) refl (port_of (value_of items line (codes "SrcPort"))) refl e
   where
-    by : (from : Option ℕ) → named_by items line (value_of items line (codes "SrcBlock")) ≡ from → (port : Option ℕ) → port_of (value_of items line (codes "SrcPort")) ≡ port → source_from from port ≡ Some source → IsSourceOf items line source
+    by : (from : Option ℕ) → named_by items line (value_of items line (codes "SrcBlock")) ≡ from → (port : Option ℕ)
+        → port_of (value_of items line (codes "SrcPort")) ≡ port → source_from from port ≡ Some source
+        → IsSourceOf items line source
     by None there port is f = absurd (none-some source f)
     by (Some from) there None is f = absurd (none-some source f)
     by (Some from) there (Some port) is f =
@@ -173,7 +188,9 @@ pub record IsGoalOf (items : List Item) (line to : ℕ) (target : Target) : Type
 goal_parts : (items : List Item) (line place to : ℕ) (target : Target) → goal_of items line place ≡ Goal.To to target → IsGoalOf items line to target
 goal_parts items line place to target e = by (value_of items place (codes "DstBlock")) e
   where
-    by_ends : (name : List ℕ) (found : Option ℕ) → named_by items line (Some name) ≡ found → (port : Option Target) → target_of (value_of items place (codes "DstPort")) ≡ port → goal_to found port ≡ Goal.To to target → IsGoalOf items line to target
+    by_ends : (name : List ℕ) (found : Option ℕ) → named_by items line (Some name) ≡ found → (port : Option Target)
+        → target_of (value_of items place (codes "DstPort")) ≡ port → goal_to found port ≡ Goal.To to target
+        → IsGoalOf items line to target
     by_ends name None there port is f = let bad : Goal.Wrong ≡ Goal.To to target = f in cc
     by_ends name (Some other) there None is f = let bad : Goal.Wrong ≡ Goal.To to target = f in cc
     by_ends name (Some other) there (Some end) is f =

@@ -7,7 +7,8 @@ use Rattle.dg_model.specs.declared.nested.Part.{Part}
 use Rattle.fir_block.specs.declared.filter.Fir.{Fir}
 use Rattle.mdl_text.specs.declared.tree.Item.{Item}
 use Rattle.mdl_build.specs.declared.library.BlockType.{BlockType}
-use Rattle.mdl_build.specs.declared.library.BlockType.TheVariants.{Inport, Outport, Constant, Ground, Terminator, SubSystem, EnablePort, DiscreteFir, Sum, Gain, Product, UnitDelay, Delay, Switch, RelationalOperator, Logic, DataTypeConversion, Mux, Demux, RateTransition}
+use Rattle.mdl_build.specs.declared.library.BlockType.TheVariants.{Inport, Outport, Constant, Ground, Terminator, SubSystem, EnablePort, DiscreteFir, Sum, Gain, Product, UnitDelay, Delay, Switch}
+use Rattle.mdl_build.specs.declared.library.BlockType.TheVariants.{RelationalOperator, Logic, DataTypeConversion, Mux, Demux, RateTransition}
 use Rattle.mdl_build.specs.declared.parts.Standing.{Standing}
 use Rattle.mdl_build.specs.declared.settings.Settings.{Settings}
 use Rattle.mdl_build.specs.Library.{type_name, type_of_name, block_types}
@@ -28,7 +29,9 @@ same_type : (a b : BlockType) → ◌≡◌ {A = Option BlockType} (Some a) (Som
 same_type a b e = cc
 
 -- a block that says a type's name has this type
-pub says_type : (items : List Item) (place : ℕ) (block_type named : BlockType) → type_at items place ≡ Some block_type → says items place (codes "BlockType") (type_name named) ≡ true → type_of_name (type_name named) ≡ Some named → block_type ≡ named
+pub says_type : (items : List Item) (place : ℕ) (block_type named : BlockType)
+    → type_at items place ≡ Some block_type → says items place (codes "BlockType") (type_name named) ≡ true
+    → type_of_name (type_name named) ≡ Some named → block_type ≡ named
 says_type items place block_type named is said own = by_value (value_of items place (codes "BlockType")) refl
   where
     by_value : (found : Option (List ℕ)) → value_of items place (codes "BlockType") ≡ found → block_type ≡ named

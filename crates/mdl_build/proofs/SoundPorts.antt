@@ -8,7 +8,8 @@ use Rattle.dg_model.specs.declared.nested.Part.{Part}
 use Rattle.dg_model.specs.Sound.{IsEnable, HasEnablePort, HasInRole, HasOutRole}
 use Rattle.mdl_text.specs.declared.tree.Item.{Item}
 use Rattle.mdl_build.specs.declared.library.BlockType.{BlockType}
-use Rattle.mdl_build.specs.declared.library.BlockType.TheVariants.{Inport, Outport, Constant, Ground, Terminator, Sum, Gain, Product, UnitDelay, Delay, Switch, RelationalOperator, Logic, DataTypeConversion, Mux, Demux, RateTransition, SubSystem, EnablePort, DiscreteFir}
+use Rattle.mdl_build.specs.declared.library.BlockType.TheVariants.{Inport, Outport, Constant, Ground, Terminator, Sum, Gain, Product, UnitDelay, Delay, Switch, RelationalOperator, Logic}
+use Rattle.mdl_build.specs.declared.library.BlockType.TheVariants.{DataTypeConversion, Mux, Demux, RateTransition, SubSystem, EnablePort, DiscreteFir}
 use Rattle.mdl_build.specs.declared.parts.Standing.{Standing}
 use Rattle.mdl_build.specs.declared.settings.Settings.{Settings}
 use Rattle.mdl_build.specs.Blocks.{at, if_subsystem, number_at, parent_of, is_of, has_enable, standing_in, standing_of}
@@ -113,7 +114,8 @@ abbrev parent_by : List Item → Option ℕ → Option ℕ
 parent_by items found = at None (λ system. at None (λ holder. if_subsystem holder (role_of items holder)) (holder_of items system)) found
 
 module _ (items : List Item) (blocks : List NestedBlock) (known : IsKept items) (all : AllZip (IsBlockAt items) (blocks_of items) blocks) where
-  port_on : (place system holder : ℕ) → holder_of items place ≡ Some system → parent_of items place ≡ Some holder → has_enable items system ≡ true → HasEnablePort blocks (Some (number_at items holder))
+  port_on : (place system holder : ℕ) → holder_of items place ≡ Some system → parent_of items place ≡ Some holder
+      → has_enable items system ≡ true → HasEnablePort blocks (Some (number_at items holder))
   port_on place system holder held parent has =
       let found = any_found (is_enable_in items system) (blocks_of items) has in
       let here : at false (λ h. h == system) (holder_of items found.1) ≡ true = left_true (at false (λ h. h == system) (holder_of items found.1)) (is_of items EnablePort found.1) found.3 in
@@ -126,7 +128,9 @@ module _ (items : List Item) (blocks : List NestedBlock) (known : IsKept items) 
       let enable : IsEnable block.part = subst IsEnable (sym (is.part ∙ ap (λ (t : BlockType). part_of (standing_of items found.1) t is.settings) kind)) tt in
       (found.0, block, slice_get_within blocks found.0 block b.1, get_or_from_slice_get blocks found.0 block block b.1, (is.parent ∙ ap (option_map (number_at items)) own, enable))
 
-  port_off : (place holder : ℕ) → place < length items → (s : Stand items place) → parent_of items place ≡ Some holder → has_enable items s.system ≡ false → ¬ HasEnablePort blocks (Some (number_at items holder))
+  port_off : (place holder : ℕ) → place < length items → (s : Stand items place)
+      → parent_of items place ≡ Some holder → has_enable items s.system ≡ false
+      → ¬ HasEnablePort blocks (Some (number_at items holder))
   port_off place holder within s parent none port =
       let block = port.1 in
       let there : slice_get blocks port.0 ≡ Some block = slice_get-get_or blocks port.0 block port.2 ∙ ap Some port.3 in
@@ -152,7 +156,9 @@ module _ (items : List Item) (blocks : List NestedBlock) (known : IsKept items) 
       let h = block_here items blocks all k block (slice_get-get_or blocks k d below) in
       let base = in_role items (parent_of items h.place) h.stands.system h.here.block_type h.here.settings in
       let held : HasInRole (option_map (number_at items) (parent_of items h.place)) (part_of (standing_of items h.place) h.here.block_type h.here.settings) =
-      subst (λ (found : Option ℕ). HasInRole (option_map (number_at items) (parent_of items h.place)) (part_of (standing_in items (parent_of items h.place) found) h.here.block_type h.here.settings)) (sym h.stands.in_system) base in
+      subst (λ (found : Option ℕ). HasInRole (option_map (number_at items) (parent_of items h.place))
+      (part_of (standing_in items (parent_of items h.place) found) h.here.block_type h.here.settings))
+      (sym h.stands.in_system) base in
       subst (λ (system : Option ℕ). HasInRole system block.part) (sym h.here.parent) (subst (λ (p : Part). HasInRole (option_map (number_at items) (parent_of items h.place)) p) (sym h.here.part) held)
 
   -- and each Outport
@@ -162,5 +168,9 @@ module _ (items : List Item) (blocks : List NestedBlock) (known : IsKept items) 
       let h = block_here items blocks all k block (slice_get-get_or blocks k d below) in
       let base = out_role items blocks (parent_of items h.place) h.stands.system h.here.block_type h.here.settings (same_enable h.place h.within h.stands) in
       let held : HasOutRole blocks (option_map (number_at items) (parent_of items h.place)) (part_of (standing_of items h.place) h.here.block_type h.here.settings) =
-      subst (λ (found : Option ℕ). HasOutRole blocks (option_map (number_at items) (parent_of items h.place)) (part_of (standing_in items (parent_of items h.place) found) h.here.block_type h.here.settings)) (sym h.stands.in_system) base in
-      subst (λ (system : Option ℕ). HasOutRole blocks system block.part) (sym h.here.parent) (subst (λ (p : Part). HasOutRole blocks (option_map (number_at items) (parent_of items h.place)) p) (sym h.here.part) held)
+      subst (λ (found : Option ℕ). HasOutRole blocks (option_map (number_at items) (parent_of items h.place))
+      (part_of (standing_in items (parent_of items h.place) found) h.here.block_type h.here.settings))
+      (sym h.stands.in_system) base in
+      subst (λ (system : Option ℕ). HasOutRole blocks system block.part) (sym h.here.parent)
+      (subst (λ (p : Part). HasOutRole blocks (option_map (number_at items) (parent_of items h.place)) p)
+      (sym h.here.part) held)

@@ -32,7 +32,9 @@ map_none f (Some x) e = let bad : ◌≡◌ {A = Option RuleFault} (Some (f x)) 
 -- a test of all places, at one
 all_at : (P : ℕ → Bool) (from count place : ℕ) → list_all P (range_with_len from count) ≡ true → from ≤ place → place < from + count → P place ≡ true
 all_at P from zero place all above below = absurd (omega arith)
-all_at P from (suc count) place all above below = by_place (λ more b. all_at P (from + 1) count place (right_true (P from) (list_all P (range_with_len (from + 1) count)) all) more b) (from == place) refl
+all_at P from (suc count) place all above below =
+    by_place (λ more b. all_at P (from + 1) count place
+    (right_true (P from) (list_all P (range_with_len (from + 1) count)) all) more b) (from == place) refl
   where
     by_place : (from + 1 ≤ place → place < from + 1 + count → P place ≡ true) → (b : Bool) → (from == place) ≡ b → P place ≡ true
     by_place later true same = let is : from ≡ place = grind (arith, nat_tests) in ap P (sym is) ∙ left_true (P from) (list_all P (range_with_len (from + 1) count)) all
@@ -68,9 +70,14 @@ kept items extents are none =
     let one : count_by (λ (place : ℕ). is_system (λ level. level == 1) (role_of items place)) (range_with_len 0 (length items)) ≡ 1 =
     sym (count_map (is_system (λ level. level == 1)) (role_of items) (range_with_len 0 (length items))) ∙ grind (arith, nat_tests, root) in
     let shallow_at : (place : ℕ) → place < length items → is_shallow (role_of items place) ≡ true =
-    λ place within. all_at (λ (p : ℕ). is_shallow (role_of items p)) 0 (length items) place (sym (all_map is_shallow (role_of items) (range_with_len 0 (length items))) ∙ all_shallow) (omega arith) (omega arith) in
+    λ place within. all_at (λ (p : ℕ). is_shallow (role_of items p)) 0 (length items) place
+    (sym (all_map is_shallow (role_of items) (range_with_len 0 (length items))) ∙ all_shallow) (omega arith)
+    (omega arith) in
     record {
-      one_root = λ a b within within' is is'. only_one (λ (place : ℕ). is_system (λ level. level == 1) (role_of items place)) 0 (length items) a b one (omega arith) (omega arith) (ap (is_system (λ level. level == 1)) is) (omega arith) (omega arith) (ap (is_system (λ level. level == 1)) is');
+      one_root = λ a b within within' is is'. only_one
+          (λ (place : ℕ). is_system (λ level. level == 1) (role_of items place)) 0 (length items) a b one
+          (omega arith) (omega arith) (ap (is_system (λ level. level == 1)) is) (omega arith) (omega arith)
+          (ap (is_system (λ level. level == 1)) is');
       shallow = λ place level within is.
           let test : nat_lt level 65 ≡ true = sym (ap is_shallow is) ∙ shallow_at place within in
           grind (arith, nat_tests);
@@ -148,20 +155,28 @@ in_section items holder system level is held =
     same_number n = grind (arith, nat_tests)
 
 -- two Systems of a subsystem are one
-pub one_system : (items : List Item) → IsKept items → (holder outer one other a b : ℕ) → holder < length items → role_of items holder ≡ SubSystem outer → one < length items → other < length items → role_of items one ≡ System a → role_of items other ≡ System b → holder_of items one ≡ Some holder → holder_of items other ≡ Some holder → one ≡ other
+pub one_system : (items : List Item) → IsKept items → (holder outer one other a b : ℕ) → holder < length items
+    → role_of items holder ≡ SubSystem outer → one < length items → other < length items
+    → role_of items one ≡ System a → role_of items other ≡ System b → holder_of items one ≡ Some holder
+    → holder_of items other ≡ Some holder → one ≡ other
 one_system items known holder outer one other a b within sub within_one within_other is_one is_other held_one held_other =
     let number = block_at items holder within (ap is_block sub) in
     let all = known.blocks (number_at items holder) holder number in
     let last : has_one_system items holder (role_of items holder) ≡ true = right_true (is_some (value_of items holder (codes "BlockType")) && has_own_name items holder) _ all in
     let test : (count_by (is_system_in items holder) (places_of items) == 1) ≡ true = sym (ap (has_one_system items holder) sub) ∙ last in
     let single : count_by (is_system_in items holder) (range_with_len 0 (length items)) ≡ 1 = grind (arith, nat_tests, test) in
-    only_one (is_system_in items holder) 0 (length items) one other single (omega arith) (omega arith) (in_section items holder one a is_one held_one) (omega arith) (omega arith) (in_section items holder other b is_other held_other)
+    only_one (is_system_in items holder) 0 (length items) one other single (omega arith) (omega arith)
+    (in_section items holder one a is_one held_one) (omega arith) (omega arith)
+    (in_section items holder other b is_other held_other)
 
 pub same_Some : (a b : ℕ) → ◌≡◌ {A = Option ℕ} (Some a) (Some b) → a ≡ b
 same_Some a b e = cc
 
 -- two blocks of one parent stand in one System
-pub same_system : (items : List Item) → IsKept items → (one other : ℕ) → one < length items → other < length items → (s : Stand items one) → (t : Stand items other) → option_map (number_at items) (parent_of items one) ≡ option_map (number_at items) (parent_of items other) → s.system ≡ t.system
+pub same_system : (items : List Item) → IsKept items → (one other : ℕ) → one < length items → other < length items
+    → (s : Stand items one) → (t : Stand items other)
+    → option_map (number_at items) (parent_of items one) ≡ option_map (number_at items) (parent_of items other)
+    → s.system ≡ t.system
 same_system items known one other within within' s t same = elim s.cases [
   | inl root ↦ elim t.cases [
     | inl root' ↦ known.one_root s.system t.system (omega (arith, s.before)) (omega (arith, t.before)) (s.system_is ∙ ap System root.0) (t.system_is ∙ ap System root'.0)
@@ -174,6 +189,8 @@ same_system items known one other within within' s t same = elim s.cases [
         let inside : s.holder < length items = omega (arith, s.before, s.holder_before) in
         let inside' : t.holder < length items = omega (arith, t.before, t.holder_before) in
         let holders : s.holder ≡ t.holder = one_number items s.holder t.holder inside (ap is_block sub.1) inside' (ap is_block sub'.1) numbers in
-        one_system items known s.holder sub.0 s.system t.system s.level t.level inside sub.1 (omega (arith, s.before)) (omega (arith, t.before)) s.system_is t.system_is s.in_holder (t.in_holder ∙ ap (λ (h : ℕ). Some h) (sym holders))
+        one_system items known s.holder sub.0 s.system t.system s.level t.level inside sub.1
+        (omega (arith, s.before)) (omega (arith, t.before)) s.system_is t.system_is s.in_holder
+        (t.in_holder ∙ ap (λ (h : ℕ). Some h) (sym holders))
   ]
 ]

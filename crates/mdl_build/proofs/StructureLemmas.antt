@@ -87,7 +87,8 @@ none_found : {X : Type 0} (p : X → Bool) (xs : List X) (k : ℕ) (x : X) → f
 none_found p [] k x e at = absurd (none-some x at)
 none_found {X} p (y ∷ ys) k x e at = by (p y) refl e k at (none_found p ys)
   where
-    by : (b : Bool) → p y ≡ b → cond b (Some y) (find p ys) ≡ None → (j : ℕ) → slice_get (y ∷ ys) j ≡ Some x → ((i : ℕ) (z : X) → find p ys ≡ None → slice_get ys i ≡ Some z → p z ≡ false) → p x ≡ false
+    by : (b : Bool) → p y ≡ b → cond b (Some y) (find p ys) ≡ None → (j : ℕ) → slice_get (y ∷ ys) j ≡ Some x
+        → ((i : ℕ) (z : X) → find p ys ≡ None → slice_get ys i ≡ Some z → p z ≡ false) → p x ≡ false
     by true t none j there rest = absurd (none-some y (sym none))
     by false t none zero there rest = ap p (sym (same_Some y x there)) ∙ t
     by false t none (suc j) there rest = rest j x none there
@@ -128,4 +129,6 @@ name_kept items place e = by_type (is_some (value_of items place (codes "BlockTy
 -- a tree that keeps the rule of library has a known type at each block
 pub type_kept : (items : List Item) → library_fault items ≡ None → (k place : ℕ) → slice_get (blocks_of items) k ≡ Some place → type_at items place ≡ None → ⊥
 type_kept items none k place at untyped =
-    true≢false (sym (ap is_none untyped) ∙ none_found (λ (p : ℕ). is_none (type_at items p)) (blocks_of items) k place (mapped_none _ (find (λ (p : ℕ). is_none (type_at items p)) (blocks_of items)) none) at)
+    true≢false (sym (ap is_none untyped) ∙ none_found (λ (p : ℕ). is_none (type_at items p))
+    (blocks_of items) k place
+    (mapped_none _ (find (λ (p : ℕ). is_none (type_at items p)) (blocks_of items)) none) at)

@@ -5,7 +5,8 @@ use Rattle.std.proofs.lemmas.List.{length-map}
 use Rattle.std.proofs.lemmas.Option.{same_Some, slice_get-map, slice_get-get_or, slice_get_within}
 use Rattle.std.proofs.lemmas.Slice.Eq.{bytes_eq-Decides}
 use Rattle.mdl_build.specs.declared.library.BlockType.{BlockType}
-use Rattle.mdl_build.specs.declared.library.BlockType.TheVariants.{Inport, Outport, Constant, Ground, Terminator, Sum, Gain, Product, UnitDelay, Delay, Switch, RelationalOperator, Logic, DataTypeConversion, Mux, Demux, RateTransition, SubSystem, EnablePort, DiscreteFir}
+use Rattle.mdl_build.specs.declared.library.BlockType.TheVariants.{Inport, Outport, Constant, Ground, Terminator, Sum, Gain, Product, UnitDelay, Delay, Switch, RelationalOperator, Logic}
+use Rattle.mdl_build.specs.declared.library.BlockType.TheVariants.{DataTypeConversion, Mux, Demux, RateTransition, SubSystem, EnablePort, DiscreteFir}
 use Rattle.mdl_build.specs.Library.{block_types, number_of, type_name}
 use Rattle.mdl_values.specs.Words.{value_beside}
 

@@ -21,10 +21,15 @@ same_zero digits least greatest =
     (subst (λ (g : pos 0 ≤ℤ pos 18). zero_by digits least greatest ≡ zero_by digits least g) (greatest_prop greatest zero_decimal.greatest_exponent) refl))
 
 -- nothing said, with any such 0 and empty lists
-pub unset_by : (digits : 0 < 10 ^ 18) (least : negsuc 35 ≤ℤ pos 0) (greatest : pos 0 ≤ℤ pos 18) (list states : List Decimal) (signs : List Bool) (sizes : List ℕ) → list ≡ [] → states ≡ [] → signs ≡ [] → sizes ≡ [] →
+pub unset_by : (digits : 0 < 10 ^ 18) (least : negsuc 35 ≤ℤ pos 0) (greatest : pos 0 ≤ℤ pos 18)
+    (list states : List Decimal) (signs : List Bool) (sizes : List ℕ) → list ≡ [] → states ≡ [] → signs ≡ []
+    → sizes ≡ [] →
     record unset { said = record unsaid { rate = zero_by digits least greatest }; list = list; states = states; signs = signs; sizes = sizes } ≡ unset
 unset_by digits least greatest list states signs sizes no_list no_states no_signs no_sizes =
-    let same = same_zero digits least greatest in rw (no_list, no_states, no_signs, no_sizes) (ap (λ (rate : Decimal). let settings : Settings = record unset { said = record unsaid { rate = rate } } in settings) same)
+    let same = same_zero digits least greatest in
+    rw (no_list, no_states, no_signs, no_sizes)
+    (ap (λ (rate : Decimal). let settings : Settings = record unset { said = record unsaid { rate = rate } } in
+    settings) same)
 
 -- behind an empty list
 pub zero_alone : (digits : 0 < 10 ^ 18) (least : negsuc 35 ≤ℤ pos 0) (greatest : pos 0 ≤ℤ pos 18) (list : List Decimal) → list ≡ [] → list ++ (zero_by digits least greatest ∷ []) ≡ zero_decimal ∷ []

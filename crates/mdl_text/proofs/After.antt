@@ -1,5 +1,6 @@
 -- What the lines after a line make of what was read up to it, and each form of a line in front of them.
-use Rattle.std.proofs.Common.{◌≡◌, ℕ, zero, suc, ◌+◌, ◌-◌, ◌<◌, List, [], ◌∷◌, ◌++◌, length, take, drop, Option, Some, None, ◌⊎◌, refl, sym, ◌∙◌, ap, subst, append_assoc, append-nil, flat_map, arith, add-one, option_and_then, ltb-true}
+use Rattle.std.proofs.Common.{◌≡◌, ℕ, zero, suc, ◌+◌, ◌-◌, ◌<◌, List, [], ◌∷◌, ◌++◌, length, take, drop, Option, Some, None, ◌⊎◌, refl, sym, ◌∙◌, ap, subst, append_assoc, append-nil, flat_map, arith}
+use Rattle.std.proofs.Common.{add-one, option_and_then, ltb-true}
 use Rattle.std.specs.Prelude.{◌&&◌, nat_lt}
 use Rattle.std.specs.List.{list_all, AllByRecursion}
 use Rattle.std.proofs.lemmas.Bool.{and_parts}
@@ -100,7 +101,8 @@ module _ (draft : Draft) (line : List ℕ) (lines : List (List ℕ)) (items : Li
       let same : free draft ≡ next = cc in
       after_part draft draft (line_part line Nothing) [] lines items (line, refl, form) (sym (append-nil draft.items)) (λ says more b. b) (subst (λ r. AfterReader r lines items) (sym same) after)
 
-  pub closed_sound : (before bytes : List ℕ) (next : Reader) → AreBlanks before → line ≡ before ++ 125 ∷ bytes → closed draft bytes ≡ Some next → AfterReader next lines items → AfterFree draft (line ∷ lines) items
+  pub closed_sound : (before bytes : List ℕ) (next : Reader) → AreBlanks before → line ≡ before ++ 125 ∷ bytes
+      → closed draft bytes ≡ Some next → AfterReader next lines items → AfterFree draft (line ∷ lines) items
   unfolding closed
   closed_sound before bytes next blanks form e after =
       let made = cond_some (list_all is_blank bytes && nat_lt 0 draft.depth) (free (record { items = draft.items; depth = draft.depth - 1 })) next e in
@@ -115,7 +117,8 @@ module _ (draft : Draft) (line : List ℕ) (lines : List (List ℕ)) (items : Li
       ends zero says more positive b = absurd (omega arith)
       ends (suc depth) says more positive b = let e : suc depth - 1 ≡ depth = omega arith in subst (λ d. Builds d says more) e b
 
-  pub opened_sound : (name bytes : List ℕ) (next : Reader) → (AreBlanks bytes → StartsSection line name) → opened draft name bytes ≡ Some next → AfterReader next lines items → AfterFree draft (line ∷ lines) items
+  pub opened_sound : (name bytes : List ℕ) (next : Reader) → (AreBlanks bytes → StartsSection line name)
+      → opened draft name bytes ≡ Some next → AfterReader next lines items → AfterFree draft (line ∷ lines) items
   unfolding opened
   opened_sound name bytes next form e after =
       let within : Draft = record { items = (added draft name Section).items; depth = draft.depth + 1 } in
@@ -127,7 +130,10 @@ module _ (draft : Draft) (line : List ℕ) (lines : List (List ℕ)) (items : Li
       (λ says more b. (more, refl, ltb-true draft.depth 256 parts.1, subst (λ d. Builds d says more) (add-one draft.depth) b))
       (subst (λ r. AfterReader r lines items) (sym made.1) after)
 
-  pub bare_sound : (name value : List ℕ) (next : Reader) → ((IsEmptyParameter line name × (value ≡ [])) ⊎ IsBareParameter line name value) → Some (free (added draft name (Bare value))) ≡ Some next → AfterReader next lines items → AfterFree draft (line ∷ lines) items
+  pub bare_sound : (name value : List ℕ) (next : Reader)
+      → ((IsEmptyParameter line name × (value ≡ [])) ⊎ IsBareParameter line name value)
+      → Some (free (added draft name (Bare value))) ≡ Some next → AfterReader next lines items
+      → AfterFree draft (line ∷ lines) items
   bare_sound name value next form e after =
       let same : free (added draft name (Bare value)) ≡ next = cc in
       after_part draft (added draft name (Bare value)) (line_part line (Entry name (Bare value))) (item draft.depth name (Bare value) ∷ []) lines items
@@ -171,7 +177,9 @@ further_sound draft name said line before bytes next lines items blanks form e a
       more = rest.more;
       each = (record { before = before; strings = 34 ∷ bytes; blanks = blanks; are_strings = said_now.2; form = form }, rest.each);
       form = ap (λ l. line ∷ l) rest.form;
-      total = rest.total ∙ ap (λ v. draft.items ++ item draft.depth name (Quoted v) ∷ rest.more) (ap (λ v. v ++ flat_map (λ next. next.value) rest.further) said_now.1 ∙ append_assoc said said_now.0 (flat_map (λ next. next.value) rest.further));
+      total = rest.total ∙ ap (λ v. draft.items ++ item draft.depth name (Quoted v) ∷ rest.more)
+          (ap (λ v. v ++ flat_map (λ next. next.value) rest.further) said_now.1
+          ∙ append_assoc said said_now.0 (flat_map (λ next. next.value) rest.further));
       goes = rest.goes;
     }
 
@@ -220,7 +228,9 @@ listed_sound draft name said n line next lines items one_line (Closed taken) end
       closes = outer.ends.0;
       blanks = subst AreBlanks dropped made.0;
       form = ap (λ l. l ++ lines) (sym (lines_one line one_line) ∙ ap lines_of outer.form);
-      total = rest.total ∙ append_assoc draft.items (item draft.depth name (Brackets (said ++ take taken line)) ∷ []) rest.more ∙ ap (λ v. draft.items ++ item draft.depth name (Brackets (said ++ v)) ∷ rest.more) took;
+      total = rest.total ∙ append_assoc draft.items
+          (item draft.depth name (Brackets (said ++ take taken line)) ∷ []) rest.more
+          ∙ ap (λ v. draft.items ++ item draft.depth name (Brackets (said ++ v)) ∷ rest.more) took;
       goes = rest.goes;
     }
 listed_sound draft name said n line next lines items one_line (Open m) ends e after =
@@ -239,8 +249,12 @@ listed_sound draft name said n line next lines items one_line (Open m) ends e af
       more = rest.more;
       closes = outer.ends.0 (Other 10 ∷ rest.pieces) (newline_no_quote, newline_no_opening, newline_no_closing, rest.closes);
       blanks = rest.blanks;
-      form = ap (λ l. line ∷ l) rest.form ∙ ap (λ l. l ++ rest.rest) (sym (ap (λ l. lines_of (l ++ rest.after)) all ∙ ap lines_of (append_assoc line (10 ∷ later) rest.after) ∙ lines_next line (later ++ rest.after) one_line));
-      total = rest.total ∙ ap (λ v. draft.items ++ item draft.depth name (Brackets v) ∷ rest.more) (append_assoc (said ++ line) (10 ∷ []) later ∙ append_assoc said line (10 ∷ later) ∙ ap (λ l. said ++ l) (sym all));
+      form = ap (λ l. line ∷ l) rest.form ∙ ap (λ l. l ++ rest.rest)
+          (sym (ap (λ l. lines_of (l ++ rest.after)) all ∙ ap lines_of (append_assoc line (10 ∷ later) rest.after)
+          ∙ lines_next line (later ++ rest.after) one_line));
+      total = rest.total ∙ ap (λ v. draft.items ++ item draft.depth name (Brackets v) ∷ rest.more)
+          (append_assoc (said ++ line) (10 ∷ []) later ∙ append_assoc said line (10 ∷ later)
+          ∙ ap (λ l. said ++ l) (sym all));
       goes = rest.goes;
     }
 listed_sound draft name said n line next lines items one_line Broken ends e after = cc

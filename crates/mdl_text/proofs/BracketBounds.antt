@@ -16,7 +16,8 @@ use Rattle.mdl_text.specs.declared.reader.Pending.{Pending}
 use Rattle.mdl_text.specs.declared.reader.Pending.TheVariants.{Nothing, Strings, Open as OpenList}
 use Rattle.mdl_text.specs.declared.reader.Reader.{Reader}
 use Rattle.mdl_text.specs.Bytes.{is_blank, is_name_byte}
-use Rattle.mdl_text.specs.inner.Plain.{unblanked, begins_with_quote, added, spot_at, spot_step_in, spot_step, line_end_in, or_else_closed, list_end, list_from, IsBounded, reader_strings, strings_from, opened, closed, listed_by, listed, valued, after_name, named, fresh_text, fresh, step_in, step}
+use Rattle.mdl_text.specs.inner.Plain.{unblanked, begins_with_quote, added, spot_at, spot_step_in, spot_step, line_end_in, or_else_closed, list_end, list_from, IsBounded, reader_strings, strings_from}
+use Rattle.mdl_text.specs.inner.Plain.{opened, closed, listed_by, listed, valued, after_name, named, fresh_text, fresh, step_in, step}
 
 record Keeps {A : Type 0} (P : A → Type 0) (found : Option A) : Type 0 where
   each : (x : A) → found ≡ Some x → P x

@@ -9,7 +9,9 @@ use Rattle.fx_text.specs.Strings.Char.{Plain}
 use Rattle.mdl_text.specs.Bytes.{is_blank, is_name_byte}
 
 -- which of three cases two tests take
-pub two_tests : {X : Type 0} (s t : Bool) (x y z : X) → ((s ≡ true) × (cond s x (cond t y z) ≡ x)) ⊎ (((t ≡ true) × (cond s x (cond t y z) ≡ y)) ⊎ ((s ≡ false) × (t ≡ false) × (cond s x (cond t y z) ≡ z)))
+pub two_tests : {X : Type 0} (s t : Bool) (x y z : X)
+    → ((s ≡ true) × (cond s x (cond t y z) ≡ x))
+    ⊎ (((t ≡ true) × (cond s x (cond t y z) ≡ y)) ⊎ ((s ≡ false) × (t ≡ false) × (cond s x (cond t y z) ≡ z)))
 two_tests true t x y z = inl (refl, refl)
 two_tests false true x y z = inr (inl (refl, refl))
 two_tests false false x y z = inr (inr (refl, refl, refl))

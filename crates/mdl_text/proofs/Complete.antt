@@ -1,5 +1,6 @@
 -- What a text stands for is read from it.
-use Rattle.std.proofs.Common.{◌≡◌, ◌≢◌, ℕ, zero, suc, ◌+◌, ◌-◌, ◌<◌, true, false, cond, not, List, [], ◌∷◌, ◌++◌, length, take, drop, Some, None, ◌⊎◌, inl, inr, refl, sym, ◌∙◌, ap, subst, append_assoc, append-nil, eqb-true, eq-eqb, ne_eqb, flat_map, arith, add-one, option_and_then, length-append, lt-ltb}
+use Rattle.std.proofs.Common.{◌≡◌, ◌≢◌, ℕ, zero, suc, ◌+◌, ◌-◌, ◌<◌, true, false, cond, not, List, [], ◌∷◌, ◌++◌, length, take, drop, Some, None, ◌⊎◌, inl, inr, refl, sym, ◌∙◌, ap, subst}
+use Rattle.std.proofs.Common.{append_assoc, append-nil, eqb-true, eq-eqb, ne_eqb, flat_map, arith, add-one, option_and_then, length-append, lt-ltb}
 use Rattle.std.specs.Prelude.{◌==◌, nat_lt}
 use Rattle.std.specs.List.{list_all, prefix_len, AllByRecursion}
 use Rattle.std.proofs.lemmas.Bool.{and_parts, and_from}
@@ -19,8 +20,10 @@ use Rattle.mdl_text.specs.Bytes.Piece.{Opening, Closing, String, Other}
 use Rattle.mdl_text.specs.Lines.{IsComment, StartsSection, EndsSection, IsEmptyParameter, GivesParameter, IsBareParameter, IsFurtherText, Further, IsQuotedParameter, IsListParameter}
 use Rattle.mdl_text.specs.Stands.{Says, Part, HasForm, Builds, Stands}
 use Rattle.mdl_text.specs.Stands.Says.{Nothing, Entry, End}
-use Rattle.mdl_text.specs.inner.Plain.{unblanked, trimmed, strings, strings_from, list_end, spot_at, added, free, reader_strings, opened, closed, listed_by, listed, valued, after_name, named, fresh_text, fresh, begins_with_quote, step, finish, run, start}
-use Rattle.mdl_text.proofs.Classes.{no_byte, name_no_blank, blank_no_name, quote_no_blank, bracket_no_blank, hash_no_blank, opening_no_blank, closing_no_blank, quote_no_name, hash_no_name, opening_no_name, closing_no_name, bracket_no_brace, quote_no_brace}
+use Rattle.mdl_text.specs.inner.Plain.{unblanked, trimmed, strings, strings_from, list_end, spot_at, added, free, reader_strings, opened, closed, listed_by, listed, valued, after_name, named}
+use Rattle.mdl_text.specs.inner.Plain.{fresh_text, fresh, begins_with_quote, step, finish, run, start}
+use Rattle.mdl_text.proofs.Classes.{no_byte, name_no_blank, blank_no_name, quote_no_blank, bracket_no_blank, hash_no_blank, opening_no_blank, closing_no_blank, quote_no_name, hash_no_name}
+use Rattle.mdl_text.proofs.Classes.{opening_no_name, closing_no_name, bracket_no_brace, quote_no_brace}
 use Rattle.mdl_text.proofs.Scans.{FirstIs, unblanked_after, unblanked_at, unblanked_none, name_length_of, trimmed_value}
 use Rattle.mdl_text.proofs.Quotes.{outside_quotes}
 use Rattle.mdl_text.proofs.Pieces.{string_end, opening_end, closing_end, last_end, other_end}
@@ -40,11 +43,15 @@ fresh_end draft line depth end deep =
     let one_up : draft.depth - 1 ≡ depth = omega arith in
     let positive : 0 < draft.depth = omega arith in
     ap (fresh_text draft) (ap unblanked end.form ∙ unblanked_at end.before 125 end.after end.blanks closing_no_blank)
-    ∙ ap (λ t. cond t (Some (free (record { items = draft.items; depth = draft.depth - 1 }))) None) (and_from (list_all is_blank end.after) (nat_lt 0 draft.depth) end.blanks_after (lt-ltb 0 draft.depth positive))
+    ∙ ap (λ t. cond t (Some (free (record { items = draft.items; depth = draft.depth - 1 }))) None)
+    (and_from (list_all is_blank end.after) (nat_lt 0 draft.depth) end.blanks_after
+    (lt-ltb 0 draft.depth positive))
     ∙ ap (λ d. Some (free (record { items = draft.items; depth = d }))) one_up
 
 -- a line that begins with a name
-fresh_name : (draft : Draft) (before name rest : List ℕ) → AreBlanks before → IsName name → FirstIs (λ b. is_name_byte b ≡ false) rest → fresh draft (before ++ (name ++ rest)) ≡ after_name draft name rest (unblanked rest)
+fresh_name : (draft : Draft) (before name rest : List ℕ) → AreBlanks before → IsName name
+    → FirstIs (λ b. is_name_byte b ≡ false) rest
+    → fresh draft (before ++ (name ++ rest)) ≡ after_name draft name rest (unblanked rest)
 unfolding fresh named
 fresh_name draft before name rest blanks is_name stops = ap (fresh_text draft) (unblanked_after before (name ++ rest) blanks) ∙ at name is_name.nonempty is_name.each
   where
@@ -68,20 +75,29 @@ blank_stops : (between rest : List ℕ) → AreBlanks between → FirstIs (λ b.
 blank_stops [] rest blanks stops = stops
 blank_stops (b ∷ bs) rest blanks stops = blank_no_name b (and_parts (is_blank b) (list_all is_blank bs) blanks).0
 
-pub fresh_section : (draft : Draft) (line name : List ℕ) → StartsSection line name → draft.depth < 256 → fresh draft line ≡ Some (free (record { items = draft.items ++ item draft.depth name Section ∷ []; depth = suc draft.depth }))
+pub fresh_section : (draft : Draft) (line name : List ℕ) → StartsSection line name → draft.depth < 256
+    → fresh draft line ≡ Some (free (record {
+      items = draft.items ++ item draft.depth name Section ∷ [];
+      depth =
+          suc draft.depth;
+    }))
 unfolding opened
 fresh_section draft line name starts deep =
     let rest : List ℕ = starts.between ++ 123 ∷ starts.after in
     ap (fresh draft) starts.form
     ∙ fresh_name draft starts.before name rest starts.blanks starts.is_name (blank_stops starts.between (123 ∷ starts.after) starts.blanks_between opening_no_name)
     ∙ ap (after_name draft name rest) (unblanked_at starts.between 123 starts.after starts.blanks_between opening_no_blank)
-    ∙ ap (λ t. cond t (Some (free (record { items = (added draft name Section).items; depth = draft.depth + 1 }))) None) (and_from (list_all is_blank starts.after) (nat_lt draft.depth 256) starts.blanks_after (lt-ltb draft.depth 256 deep))
+    ∙ ap (λ t. cond t (Some (free (record { items = (added draft name Section).items; depth = draft.depth + 1 })))
+    None) (and_from (list_all is_blank starts.after) (nat_lt draft.depth 256) starts.blanks_after
+    (lt-ltb draft.depth 256 deep))
     ∙ ap (λ d. Some (free (record { items = (added draft name Section).items; depth = d }))) (add-one draft.depth)
 
 pub fresh_empty : (draft : Draft) (line name : List ℕ) → IsEmptyParameter line name → fresh draft line ≡ Some (free (added draft name (Bare [])))
 fresh_empty draft line name empty =
     ap (fresh draft) empty.form
-    ∙ fresh_name draft empty.before name empty.after empty.blanks empty.is_name (subst (FirstIs (λ b. is_name_byte b ≡ false)) (append-nil empty.after) (blank_stops empty.after [] empty.blanks_after tt))
+    ∙ fresh_name draft empty.before name empty.after empty.blanks empty.is_name
+    (subst (FirstIs (λ b. is_name_byte b ≡ false)) (append-nil empty.after)
+    (blank_stops empty.after [] empty.blanks_after tt))
     ∙ ap (after_name draft name empty.after) (unblanked_none empty.after empty.blanks_after)
 
 -- a parameter with a value
@@ -111,7 +127,10 @@ fresh_bare draft line name value bare =
     let trim : trimmed (is.first ∷ (is.rest ++ bare.after)) ≡ value =
     ap trimmed (sym said ∙ ap (λ l. l ++ bare.after) is.ends) ∙ trimmed_value is.front is.last bare.after bare.blanks_after is.no_blank_last ∙ sym is.ends in
     fresh_value draft line name is.first (is.rest ++ bare.after) (subst (GivesParameter line name) said bare.gives) is.no_blank_first is.no_brace
-    ∙ ap (λ t. cond t (reader_strings draft name (strings_from [] (is.first ∷ (is.rest ++ bare.after)))) (cond (is.first == 91) (listed draft name (91 ∷ []) 0 (is.rest ++ bare.after)) (Some (free (added draft name (Bare (trimmed (is.first ∷ (is.rest ++ bare.after))))))))) (ne_eqb is.first 34 is.no_quote)
+    ∙ ap (λ t. cond t (reader_strings draft name (strings_from [] (is.first ∷ (is.rest ++ bare.after))))
+    (cond (is.first == 91) (listed draft name (91 ∷ []) 0 (is.rest ++ bare.after))
+    (Some (free (added draft name (Bare (trimmed (is.first ∷ (is.rest ++ bare.after)))))))))
+    (ne_eqb is.first 34 is.no_quote)
     ∙ ap (λ t. cond t (listed draft name (91 ∷ []) 0 (is.rest ++ bare.after)) (Some (free (added draft name (Bare (trimmed (is.first ∷ (is.rest ++ bare.after)))))))) (ne_eqb is.first 91 is.no_bracket)
     ∙ ap (λ v. Some (free (added draft name (Bare v)))) trim
 
@@ -147,7 +166,10 @@ further_step draft name said line value is =
     ∙ ap (λ l. cond (begins_with_quote l) (reader_strings draft name (strings_from said is.strings)) (fresh (added draft name (Quoted said)) line)) first.1
     ∙ ap (reader_strings draft name) (strings_read said is.strings value is.are_strings)
 
-run_further : (further : List Further) (draft : Draft) (name said : List ℕ) (rest : List (List ℕ)) → AllByRecursion (λ next. IsFurtherText next.line next.value) further → run (with_strings draft name said) (flat_map (λ next. next.line ∷ []) further ++ rest) ≡ run (with_strings draft name (said ++ flat_map (λ next. next.value) further)) rest
+run_further : (further : List Further) (draft : Draft) (name said : List ℕ) (rest : List (List ℕ))
+    → AllByRecursion (λ next. IsFurtherText next.line next.value) further
+    → run (with_strings draft name said) (flat_map (λ next. next.line ∷ []) further ++ rest)
+    ≡ run (with_strings draft name (said ++ flat_map (λ next. next.value) further)) rest
 run_further [] draft name said rest each = ap (λ v. run (with_strings draft name v) rest) (sym (append-nil said))
 run_further (f ∷ fs) draft name said rest each =
     ap (λ o. option_and_then (λ next. run next (flat_map (λ next. next.line ∷ []) fs ++ rest)) o) (further_step draft name said f.line f.value each.0)
@@ -162,7 +184,10 @@ NoQuote (line ∷ lines) = begins_with_quote (unblanked line) ≡ false
 pub run_strings_end : (lines : List (List ℕ)) (draft : Draft) (name said : List ℕ) → NoQuote lines → run (with_strings draft name said) lines ≡ run (free (added draft name (Quoted said))) lines
 unfolding step finish
 run_strings_end [] draft name said other = refl
-run_strings_end (line ∷ lines) draft name said other = ap (λ t. option_and_then (λ next. run next lines) (cond t (reader_strings draft name (strings_from said (unblanked line))) (fresh (added draft name (Quoted said)) line))) other
+run_strings_end (line ∷ lines) draft name said other =
+    ap (λ t. option_and_then (λ next. run next lines)
+    (cond t (reader_strings draft name (strings_from said (unblanked line)))
+    (fresh (added draft name (Quoted said)) line))) other
 
 name_no_quote : (before name rest : List ℕ) → AreBlanks before → IsName name → begins_with_quote (unblanked (before ++ (name ++ rest))) ≡ false
 name_no_quote before name rest blanks is_name = ap begins_with_quote (unblanked_after before (name ++ rest) blanks) ∙ at name is_name.nonempty is_name.each
@@ -186,8 +211,12 @@ list_no_quote bytes name said rest gives =
     let first = first_line tail in
     let front : List ℕ = gives.before ++ name in
     let one : IsOneLine front = line_join gives.before name (blanks_line gives.before gives.blanks) (name_line name gives.is_name.each) in
-    let lines : lines_of bytes ≡ (front ++ first.first) ∷ first.more = ap lines_of (gives.form ∙ sym (append_assoc gives.before name tail)) ∙ lines_front front tail first.first first.more one first.form in
-    subst (λ l. NoQuote (l ++ rest)) (sym lines) (ap (λ l. begins_with_quote (unblanked l)) (append_assoc gives.before name first.first) ∙ name_no_quote gives.before name first.first gives.blanks gives.is_name)
+    let lines : lines_of bytes ≡ (front ++ first.first) ∷ first.more =
+    ap lines_of (gives.form ∙ sym (append_assoc gives.before name tail))
+    ∙ lines_front front tail first.first first.more one first.form in
+    subst (λ l. NoQuote (l ++ rest)) (sym lines)
+    (ap (λ l. begins_with_quote (unblanked l)) (append_assoc gives.before name first.first)
+    ∙ name_no_quote gives.before name first.first gives.blanks gives.is_name)
 
 part_no_quote : (lines rest : List (List ℕ)) (says : Says) → HasForm lines says → NoQuote (lines ++ rest)
 part_no_quote lines rest Nothing form = line_no_quote lines rest form.0 form.1 (of form.0 form.2)
@@ -200,7 +229,9 @@ part_no_quote lines rest End form =
     line_no_quote lines rest form.0 form.1 (ap begins_with_quote (ap unblanked end.form ∙ unblanked_at end.before 125 end.after end.blanks closing_no_blank))
 part_no_quote lines rest (Entry name Section) form =
     let starts = form.2 in
-    line_no_quote lines rest form.0 form.1 (ap (λ l. begins_with_quote (unblanked l)) starts.form ∙ name_no_quote starts.before name (starts.between ++ 123 ∷ starts.after) starts.blanks starts.is_name)
+    line_no_quote lines rest form.0 form.1
+    (ap (λ l. begins_with_quote (unblanked l)) starts.form
+    ∙ name_no_quote starts.before name (starts.between ++ 123 ∷ starts.after) starts.blanks starts.is_name)
 part_no_quote lines rest (Entry name (Bare value)) form = line_no_quote lines rest form.0 form.1 (of form.2)
   where
     of : ((IsEmptyParameter form.0 name × (value ≡ [])) ⊎ IsBareParameter form.0 name value) → begins_with_quote (unblanked form.0) ≡ false
@@ -228,12 +259,16 @@ Reads draft name said n0 pre pieces after rest =
     run (with_list draft name said n0) (lines_of (pre ++ (flat_map piece_bytes pieces ++ after)) ++ rest) ≡ run (free (added draft name (Brackets (said ++ (pre ++ flat_map piece_bytes pieces))))) rest
 
 -- one more piece is read to
-read_more : (n0 n m : ℕ) (pre piece : List ℕ) → ReadTo n0 pre n → ((rest : List ℕ) → list_end (spot_at Outside n) (length pre) (piece ++ rest) ≡ list_end (spot_at Outside m) (length pre + length piece) rest) → ReadTo n0 (pre ++ piece) m
+read_more : (n0 n m : ℕ) (pre piece : List ℕ) → ReadTo n0 pre n
+    → ((rest : List ℕ) → list_end (spot_at Outside n) (length pre) (piece ++ rest)
+    ≡ list_end (spot_at Outside m) (length pre + length piece) rest) → ReadTo n0 (pre ++ piece) m
 read_more n0 n m pre piece read next rest =
     ap (list_end (spot_at Outside n0) 0) (append_assoc pre piece rest) ∙ read (piece ++ rest) ∙ next rest ∙ ap (λ k. list_end (spot_at Outside m) k rest) (sym (length-append pre piece))
 
 -- and what is read of it with the piece
-reads_more : (draft : Draft) (name said : List ℕ) (n0 : ℕ) (pre : List ℕ) (piece : Piece) (pieces : List Piece) (after : List ℕ) (rest : List (List ℕ)) → Reads draft name said n0 (pre ++ piece_bytes piece) pieces after rest → Reads draft name said n0 pre (piece ∷ pieces) after rest
+reads_more : (draft : Draft) (name said : List ℕ) (n0 : ℕ) (pre : List ℕ) (piece : Piece) (pieces : List Piece)
+    (after : List ℕ) (rest : List (List ℕ)) → Reads draft name said n0 (pre ++ piece_bytes piece) pieces after rest
+    → Reads draft name said n0 pre (piece ∷ pieces) after rest
 reads_more draft name said n0 pre piece pieces after rest reads =
     let bytes : List ℕ = piece_bytes piece in
     let more : List ℕ = flat_map piece_bytes pieces in
@@ -242,7 +277,9 @@ reads_more draft name said n0 pre piece pieces after rest reads =
     ∙ ap (λ v. run (free (added draft name (Brackets (said ++ v)))) rest) (append_assoc pre bytes more)
 
 -- the bracket that closes a list
-run_last : (draft : Draft) (name said : List ℕ) (n0 : ℕ) (pre after : List ℕ) (rest : List (List ℕ)) → IsOneLine pre → AreBlanks after → ReadTo n0 pre 0 → run (with_list draft name said n0) (lines_of (pre ++ 93 ∷ after) ++ rest) ≡ run (free (added draft name (Brackets (said ++ (pre ++ 93 ∷ []))))) rest
+run_last : (draft : Draft) (name said : List ℕ) (n0 : ℕ) (pre after : List ℕ) (rest : List (List ℕ)) → IsOneLine pre
+    → AreBlanks after → ReadTo n0 pre 0 → run (with_list draft name said n0) (lines_of (pre ++ 93 ∷ after) ++ rest)
+    ≡ run (free (added draft name (Brackets (said ++ (pre ++ 93 ∷ []))))) rest
 unfolding step listed
 run_last draft name said n0 pre after rest one blanks read =
     let line : List ℕ = pre ++ 93 ∷ after in
@@ -256,43 +293,61 @@ run_last draft name said n0 pre after rest one blanks read =
     ∙ ap (λ v. run (free (added draft name (Brackets (said ++ v)))) rest) took
 
 -- a line at whose end a list goes on
-run_newline : (draft : Draft) (name said : List ℕ) (n0 n : ℕ) (pre bytes : List ℕ) (rest : List (List ℕ)) → IsOneLine pre → ReadTo n0 pre n → run (with_list draft name said n0) (lines_of (pre ++ 10 ∷ bytes) ++ rest) ≡ run (with_list draft name ((said ++ pre) ++ 10 ∷ []) n) (lines_of bytes ++ rest)
+run_newline : (draft : Draft) (name said : List ℕ) (n0 n : ℕ) (pre bytes : List ℕ) (rest : List (List ℕ))
+    → IsOneLine pre → ReadTo n0 pre n → run (with_list draft name said n0) (lines_of (pre ++ 10 ∷ bytes) ++ rest)
+    ≡ run (with_list draft name ((said ++ pre) ++ 10 ∷ []) n) (lines_of bytes ++ rest)
 unfolding step listed
 run_newline draft name said n0 n pre bytes rest one read =
     ap (λ l. run (with_list draft name said n0) (l ++ rest)) (lines_next pre bytes one)
     ∙ ap (λ end. option_and_then (λ next. run next (lines_of bytes ++ rest)) (listed_by draft name said pre end)) (ap (list_end (spot_at Outside n0) 0) (sym (append-nil pre)) ∙ read [])
 
 -- a newline in a list
-reads_newline : (draft : Draft) (name said : List ℕ) (n0 n : ℕ) (pre : List ℕ) (pieces : List Piece) (after : List ℕ) (rest : List (List ℕ)) → IsOneLine pre → ReadTo n0 pre n → Reads draft name ((said ++ pre) ++ 10 ∷ []) n [] pieces after rest → Reads draft name said n0 pre (Other 10 ∷ pieces) after rest
+reads_newline : (draft : Draft) (name said : List ℕ) (n0 n : ℕ) (pre : List ℕ) (pieces : List Piece)
+    (after : List ℕ) (rest : List (List ℕ)) → IsOneLine pre → ReadTo n0 pre n
+    → Reads draft name ((said ++ pre) ++ 10 ∷ []) n [] pieces after rest
+    → Reads draft name said n0 pre (Other 10 ∷ pieces) after rest
 reads_newline draft name said n0 n pre pieces after rest one read reads =
     let later : List ℕ = flat_map piece_bytes pieces in
     run_newline draft name said n0 n pre (later ++ after) rest one read
     ∙ reads
     ∙ ap (λ v. run (free (added draft name (Brackets v))) rest) (append_assoc (said ++ pre) (10 ∷ []) later ∙ append_assoc said pre (10 ∷ later))
 
-pub run_list : (pieces : List Piece) (n n0 : ℕ) (draft : Draft) (name said pre after : List ℕ) (rest : List (List ℕ)) → Closes n pieces → AreBlanks after → IsOneLine pre → ReadTo n0 pre n → Reads draft name said n0 pre pieces after rest
+pub run_list : (pieces : List Piece) (n n0 : ℕ) (draft : Draft) (name said pre after : List ℕ)
+    (rest : List (List ℕ)) → Closes n pieces → AreBlanks after → IsOneLine pre → ReadTo n0 pre n
+    → Reads draft name said n0 pre pieces after rest
 run_list [] n n0 draft name said pre after rest closes blanks one read = absurd closes
 run_list (Opening ∷ pieces) n n0 draft name said pre after rest closes blanks one read =
     reads_more draft name said n0 pre Opening pieces after rest
-    (run_list pieces (suc n) n0 draft name said (pre ++ 91 ∷ []) after rest closes blanks (line_join pre (91 ∷ []) one refl) (read_more n0 n (suc n) pre (91 ∷ []) read (λ more. opening_end n (length pre) more)))
+    (run_list pieces (suc n) n0 draft name said (pre ++ 91 ∷ []) after rest closes blanks
+    (line_join pre (91 ∷ []) one refl)
+    (read_more n0 n (suc n) pre (91 ∷ []) read (λ more. opening_end n (length pre) more)))
 run_list (Closing ∷ pieces) zero n0 draft name said pre after rest closes blanks one read =
     subst (λ ps. Reads draft name said n0 pre (Closing ∷ ps) after rest) (sym closes) (run_last draft name said n0 pre after rest one blanks read)
 run_list (Closing ∷ pieces) (suc n) n0 draft name said pre after rest closes blanks one read =
     reads_more draft name said n0 pre Closing pieces after rest
-    (run_list pieces n n0 draft name said (pre ++ 93 ∷ []) after rest closes blanks (line_join pre (93 ∷ []) one refl) (read_more n0 (suc n) n pre (93 ∷ []) read (λ more. closing_end n (length pre) more)))
+    (run_list pieces n n0 draft name said (pre ++ 93 ∷ []) after rest closes blanks
+    (line_join pre (93 ∷ []) one refl)
+    (read_more n0 (suc n) n pre (93 ∷ []) read (λ more. closing_end n (length pre) more)))
 run_list (String chars ∷ pieces) n n0 draft name said pre after rest closes blanks one read =
     reads_more draft name said n0 pre (String chars) pieces after rest
-    (run_list pieces n n0 draft name said (pre ++ quoted chars) after rest closes.2 blanks (line_join pre (quoted chars) one closes.1) (read_more n0 n n pre (quoted chars) read (λ more. string_end chars n (length pre) more closes.0)))
+    (run_list pieces n n0 draft name said (pre ++ quoted chars) after rest closes.2 blanks
+    (line_join pre (quoted chars) one closes.1)
+    (read_more n0 n n pre (quoted chars) read (λ more. string_end chars n (length pre) more closes.0)))
 run_list (Other b ∷ pieces) n n0 draft name said pre after rest closes blanks one read =
     elim (b == 10) as (λ t. (b == 10) ≡ t → Reads draft name said n0 pre (Other b ∷ pieces) after rest) [
       | true ↦ λ e. subst (λ x. Reads draft name said n0 pre (Other x ∷ pieces) after rest) (sym (eqb-true b 10 e))
           (reads_newline draft name said n0 n pre pieces after rest one read (run_list pieces n n draft name ((said ++ pre) ++ 10 ∷ []) [] after rest closes.3 blanks refl (λ more. refl)))
       | false ↦ λ e. reads_more draft name said n0 pre (Other b) pieces after rest
-          (run_list pieces n n0 draft name said (pre ++ b ∷ []) after rest closes.3 blanks (line_join pre (b ∷ []) one (and_from (not (b == 10)) true (ap not e) refl)) (read_more n0 n n pre (b ∷ []) read (λ more. other_end n (length pre) b more closes.0 closes.1 closes.2)))
+          (run_list pieces n n0 draft name said (pre ++ b ∷ []) after rest closes.3 blanks
+          (line_join pre (b ∷ []) one (and_from (not (b == 10)) true (ap not e) refl))
+          (read_more n0 n n pre (b ∷ []) read
+          (λ more. other_end n (length pre) b more closes.0 closes.1 closes.2)))
     ] refl
 
 -- a parameter whose value is a list
-run_brackets : (draft : Draft) (lines : List (List ℕ)) (name value : List ℕ) (rest : List (List ℕ)) → IsListParameter lines name value → run (free draft) (lines ++ rest) ≡ run (free (added draft name (Brackets value))) rest
+run_brackets : (draft : Draft) (lines : List (List ℕ)) (name value : List ℕ) (rest : List (List ℕ))
+    → IsListParameter lines name value → run (free draft) (lines ++ rest)
+    ≡ run (free (added draft name (Brackets value))) rest
 unfolding step valued
 run_brackets draft lines name value rest form =
     let gives = form.gives in
@@ -301,11 +356,27 @@ run_brackets draft lines name value rest form =
     let first = first_line tail in
     let pre : List ℕ = gives.before ++ (name ++ (gives.between ++ 91 ∷ [])) in
     let shape : (more : List ℕ) → pre ++ more ≡ gives.before ++ (name ++ (gives.between ++ 91 ∷ more)) =
-    λ more. append_assoc gives.before (name ++ (gives.between ++ 91 ∷ [])) more ∙ ap (λ l. gives.before ++ l) (append_assoc name (gives.between ++ 91 ∷ []) more ∙ ap (λ l. name ++ l) (append_assoc gives.between (91 ∷ []) more)) in
-    let one : IsOneLine pre = line_join gives.before (name ++ (gives.between ++ 91 ∷ [])) (blanks_line gives.before gives.blanks) (line_join name (gives.between ++ 91 ∷ []) (name_line name gives.is_name.each) (line_join gives.between (91 ∷ []) (blanks_line gives.between gives.blanks_between) refl)) in
+    λ more. append_assoc gives.before (name ++ (gives.between ++ 91 ∷ [])) more
+    ∙ ap (λ l. gives.before ++ l) (append_assoc name (gives.between ++ 91 ∷ []) more
+    ∙ ap (λ l. name ++ l) (append_assoc gives.between (91 ∷ []) more)) in
+    let one : IsOneLine pre = line_join gives.before (name ++ (gives.between ++ 91 ∷ []))
+    (blanks_line gives.before gives.blanks)
+    (line_join name (gives.between ++ 91 ∷ []) (name_line name gives.is_name.each)
+    (line_join gives.between (91 ∷ []) (blanks_line gives.between gives.blanks_between) refl)) in
     let text : form.bytes ≡ pre ++ tail = gives.form ∙ ap (λ v. gives.before ++ (name ++ (gives.between ++ (v ++ form.after)))) list.form ∙ sym (shape tail) in
     let line : List ℕ = pre ++ first.first in
-    let said : GivesParameter line name (91 ∷ first.first) = record { before = gives.before; between = gives.between; blanks = gives.blanks; is_name = gives.is_name; blanks_between = gives.blanks_between; some_between = gives.some_between; form = shape first.first } in
+    let said : GivesParameter line name (91 ∷ first.first) =
+    record {
+      before = gives.before;
+      between = gives.between;
+      blanks = gives.blanks;
+      is_name =
+          gives.is_name;
+      blanks_between = gives.blanks_between;
+      some_between =
+          gives.some_between;
+      form = shape first.first;
+    } in
     ap (λ l. run (free draft) (l ++ rest)) (form.form ∙ ap lines_of text ∙ lines_front pre tail first.first first.more one first.form)
     ∙ ap (λ o. option_and_then (λ next. run next (first.more ++ rest)) o) (fresh_value draft line name 91 first.first said bracket_no_blank bracket_no_brace)
     ∙ ap (λ l. run (with_list draft name (91 ∷ []) 0) (l ++ rest)) (sym first.form)
@@ -313,14 +384,19 @@ run_brackets draft lines name value rest form =
     ∙ ap (λ v. run (free (added draft name (Brackets v))) rest) (sym list.form)
 
 -- a parameter whose value is quoted, before what is no further text
-run_quoted : (draft : Draft) (lines : List (List ℕ)) (name value : List ℕ) (rest : List (List ℕ)) → IsQuotedParameter lines name value → NoQuote rest → run (free draft) (lines ++ rest) ≡ run (free (added draft name (Quoted value))) rest
+run_quoted : (draft : Draft) (lines : List (List ℕ)) (name value : List ℕ) (rest : List (List ℕ))
+    → IsQuotedParameter lines name value → NoQuote rest
+    → run (free draft) (lines ++ rest) ≡ run (free (added draft name (Quoted value))) rest
 unfolding step valued
 run_quoted draft lines name value rest form other =
     let first = strings_first form.strings form.said form.are_strings in
     let tail : List (List ℕ) = flat_map (λ next. next.line ∷ []) form.further in
     let read : strings_from [] (34 ∷ first.0) ≡ Some form.said = ap (strings_from []) (sym first.1) ∙ strings_read [] form.strings form.said form.are_strings in
     ap (λ l. run (free draft) (l ++ rest)) form.form
-    ∙ ap (λ o. option_and_then (λ next. run next (tail ++ rest)) o) (fresh_value draft form.line name 34 first.0 (subst (GivesParameter form.line name) first.1 form.gives) quote_no_blank quote_no_brace ∙ ap (reader_strings draft name) read)
+    ∙ ap (λ o. option_and_then (λ next. run next (tail ++ rest)) o)
+    (fresh_value draft form.line name 34 first.0
+    (subst (GivesParameter form.line name) first.1 form.gives) quote_no_blank quote_no_brace
+    ∙ ap (reader_strings draft name) read)
     ∙ run_further form.further draft name form.said rest form.each
     ∙ ap (λ v. run (with_strings draft name v) rest) (sym form.joined)
     ∙ run_strings_end rest draft name value other
@@ -328,17 +404,24 @@ run_quoted draft lines name value rest form other =
 abbrev Continues : List Says → List (List ℕ) → Type 0
 Continues says rest = (draft : Draft) (more : List Item) → Builds draft.depth says more → run (free draft) rest ≡ Some (draft.items ++ more)
 
-run_end : (depth : ℕ) (draft : Draft) (line : List ℕ) (rest : List (List ℕ)) (says : List Says) (items : List Item) → draft.depth ≡ depth → EndsSection line → Builds depth (End ∷ says) items → Continues says rest → run (free draft) (line ∷ rest) ≡ Some (draft.items ++ items)
+run_end : (depth : ℕ) (draft : Draft) (line : List ℕ) (rest : List (List ℕ)) (says : List Says) (items : List Item)
+    → draft.depth ≡ depth → EndsSection line → Builds depth (End ∷ says) items → Continues says rest
+    → run (free draft) (line ∷ rest) ≡ Some (draft.items ++ items)
 run_end zero draft line rest says items e ends builds goes = absurd builds
 run_end (suc depth) draft line rest says items e ends builds goes =
     let up : Draft = record { items = draft.items; depth = depth } in
     run_free draft line (free up) rest (fresh_end draft line depth ends e) ∙ goes up items builds
 
 -- what follows an item
-run_entry : (draft : Draft) (rest : List (List ℕ)) (says : List Says) (one : Item) (depth : ℕ) (more : List Item) → Continues says rest → Builds depth says more → run (free (record { items = draft.items ++ one ∷ []; depth = depth })) rest ≡ Some (draft.items ++ one ∷ more)
+run_entry : (draft : Draft) (rest : List (List ℕ)) (says : List Says) (one : Item) (depth : ℕ) (more : List Item)
+    → Continues says rest → Builds depth says more
+    → run (free (record { items = draft.items ++ one ∷ []; depth = depth })) rest
+    ≡ Some (draft.items ++ one ∷ more)
 run_entry draft rest says one depth more goes builds = goes (record { items = draft.items ++ one ∷ []; depth = depth }) more builds ∙ ap Some (append_assoc draft.items (one ∷ []) more)
 
-run_part : (draft : Draft) (lines rest : List (List ℕ)) (part : Says) (says : List Says) (items : List Item) → HasForm lines part → Builds draft.depth (part ∷ says) items → NoQuote rest → Continues says rest → run (free draft) (lines ++ rest) ≡ Some (draft.items ++ items)
+run_part : (draft : Draft) (lines rest : List (List ℕ)) (part : Says) (says : List Says) (items : List Item)
+    → HasForm lines part → Builds draft.depth (part ∷ says) items → NoQuote rest → Continues says rest
+    → run (free draft) (lines ++ rest) ≡ Some (draft.items ++ items)
 run_part draft lines rest Nothing says items form builds other goes =
     ap (λ l. run (free draft) (l ++ rest)) form.1 ∙ run_free draft form.0 (free draft) rest (fresh_nothing draft form.0 form.2) ∙ goes draft items builds
 run_part draft lines rest End says items form builds other goes =

@@ -1,5 +1,6 @@
 -- A list, read a byte at a time over a line, is made of pieces, and gives where they close it.
-use Rattle.std.proofs.Common.{◌≡◌, ◌≢◌, ℕ, zero, suc, ◌+◌, ◌-◌, Bool, true, false, cond, not, List, [], ◌∷◌, ◌++◌, length, Option, Some, None, ◌⊎◌, inl, inr, refl, sym, ◌∙◌, ap, subst, ⊎_elim, append_assoc, eqb-true, ne_eqb, flat_map, length-append, arith, add-one}
+use Rattle.std.proofs.Common.{◌≡◌, ◌≢◌, ℕ, zero, suc, ◌+◌, ◌-◌, Bool, true, false, cond, not, List, [], ◌∷◌, ◌++◌, length, Option, Some, None, ◌⊎◌, inl, inr, refl, sym, ◌∙◌, ap, subst, ⊎_elim}
+use Rattle.std.proofs.Common.{append_assoc, eqb-true, ne_eqb, flat_map, length-append, arith, add-one}
 use Rattle.std.specs.Prelude.{◌&&◌, ◌==◌}
 use Rattle.std.specs.List.{list_all}
 use Rattle.std.proofs.lemmas.Bool.{and_parts, and_from, not-true, eqb-false}
@@ -52,7 +53,9 @@ outside_step n b =
     r)) r)) r))
     (four_tests (b == 34) (b == 91) (b == 93) (n == 0) (Some (spot_at Inside n)) (Some (spot_at Outside (n + 1))) None (Some (spot_at Outside (n - 1))) (Some (spot_at Outside n)))
 
-inside_step : (n b : ℕ) → ((b ≡ 34) × (spot_step (spot_at Inside n) b ≡ Some (spot_at Outside n))) ⊎ (((b ≡ 92) × (spot_step (spot_at Inside n) b ≡ Some (spot_at Escaped n))) ⊎ ((is_char (Plain b) ≡ true) × (spot_step (spot_at Inside n) b ≡ Some (spot_at Inside n))))
+inside_step : (n b : ℕ) → ((b ≡ 34) × (spot_step (spot_at Inside n) b ≡ Some (spot_at Outside n)))
+    ⊎ (((b ≡ 92) × (spot_step (spot_at Inside n) b ≡ Some (spot_at Escaped n)))
+    ⊎ ((is_char (Plain b) ≡ true) × (spot_step (spot_at Inside n) b ≡ Some (spot_at Inside n))))
 unfolding spot_step
 inside_step n b = in_string b (Some (spot_at Outside n)) (Some (spot_at Escaped n)) (Some (spot_at Inside n))
 
@@ -98,7 +101,9 @@ other_step : (n b : ℕ) → b ≢ 34 → b ≢ 91 → b ≢ 93 → spot_step (s
 other_step n b q o c =
     ⊎_elim (λ s. absurd (q s.0)) (λ r. ⊎_elim (λ s. absurd (o s.0)) (λ r. ⊎_elim (λ s. absurd (c s.0)) (λ r. ⊎_elim (λ s. absurd (c s.0)) (λ s. s.3) r) r) r) (outside_step n b)
 
-chars_end : (chars : List Char) (n k : ℕ) (rest : List ℕ) → list_all is_char chars ≡ true → list_end (spot_at Inside n) k (flat_map char_bytes chars ++ 34 ∷ rest) ≡ list_end (spot_at Outside n) (k + length (flat_map char_bytes chars ++ 34 ∷ [])) rest
+chars_end : (chars : List Char) (n k : ℕ) (rest : List ℕ) → list_all is_char chars ≡ true
+    → list_end (spot_at Inside n) k (flat_map char_bytes chars ++ 34 ∷ rest)
+    ≡ list_end (spot_at Outside n) (k + length (flat_map char_bytes chars ++ 34 ∷ [])) rest
 chars_end [] n k rest h = ap (after_spot k rest) (unquote_step n)
 chars_end (Plain b ∷ chars) n k rest h =
     let parts = and_parts (is_char (Plain b)) (list_all is_char chars) h in
@@ -114,7 +119,9 @@ chars_end (Escape b ∷ chars) n k rest h =
     ∙ ap (λ m. list_end (spot_at Outside n) m rest) count
 
 -- a string in a list
-pub string_end : (chars : List Char) (n k : ℕ) (rest : List ℕ) → list_all is_char chars ≡ true → list_end (spot_at Outside n) k (quoted chars ++ rest) ≡ list_end (spot_at Outside n) (k + length (quoted chars)) rest
+pub string_end : (chars : List Char) (n k : ℕ) (rest : List ℕ) → list_all is_char chars ≡ true
+    → list_end (spot_at Outside n) k (quoted chars ++ rest)
+    ≡ list_end (spot_at Outside n) (k + length (quoted chars)) rest
 string_end chars n k rest h =
     let count : k + 1 + length (flat_map char_bytes chars ++ 34 ∷ []) ≡ k + length (quoted chars) = omega arith in
     ap (λ l. list_end (spot_at Outside n) k (34 ∷ l)) (append_assoc (flat_map char_bytes chars) (34 ∷ []) rest)
@@ -170,12 +177,16 @@ ListForm Inside n k bytes end = Inner n k bytes end
 ListForm Escaped n k bytes end = Later n k bytes end
 
 -- one more piece in front
-ends_more : (n m k j : ℕ) (piece : Piece) (pieces : List Piece) (after : List ℕ) (end : ListEnd) → ((more : List Piece) → Closes m more → Closes n (piece ∷ more)) → j ≡ k + length (piece_bytes piece) → EndsAs m j pieces after end → EndsAs n k (piece ∷ pieces) after end
+ends_more : (n m k j : ℕ) (piece : Piece) (pieces : List Piece) (after : List ℕ) (end : ListEnd)
+    → ((more : List Piece) → Closes m more → Closes n (piece ∷ more)) → j ≡ k + length (piece_bytes piece)
+    → EndsAs m j pieces after end → EndsAs n k (piece ∷ pieces) after end
 ends_more n m k j piece pieces after (Closed taken) leads count ends = (leads pieces ends.0, ends.1 ∙ omega (arith, count, length-append (piece_bytes piece) (flat_map piece_bytes pieces)))
 ends_more n m k j piece pieces after (Open o) leads count ends = (λ more h. leads (pieces ++ more) (ends.0 more h), ends.1)
 ends_more n m k j piece pieces after Broken leads count ends = tt
 
-outer_more : (n m k j : ℕ) (piece : Piece) (bytes rest : List ℕ) (end : ListEnd) → ((more : List Piece) → Closes m more → Closes n (piece ∷ more)) → j ≡ k + length (piece_bytes piece) → bytes ≡ piece_bytes piece ++ rest → Outer m j rest end → Outer n k bytes end
+outer_more : (n m k j : ℕ) (piece : Piece) (bytes rest : List ℕ) (end : ListEnd)
+    → ((more : List Piece) → Closes m more → Closes n (piece ∷ more)) → j ≡ k + length (piece_bytes piece)
+    → bytes ≡ piece_bytes piece ++ rest → Outer m j rest end → Outer n k bytes end
 outer_more n m k j piece bytes rest end leads count form outer = record {
   pieces = piece ∷ outer.pieces;
   after = outer.after;

@@ -1,5 +1,6 @@
 -- The strings of a line, read a byte at a time, are strings, and give what they say.
-use Rattle.std.proofs.Common.{◌≡◌, ℕ, true, cond, not, List, [], ◌∷◌, ◌++◌, Option, Some, None, ◌⊎◌, inl, inr, refl, sym, ◌∙◌, ap, ⊎_elim, append_assoc, append-nil, eqb-true, option_and_then, flat_map}
+use Rattle.std.proofs.Common.{◌≡◌, ℕ, true, cond, not, List, [], ◌∷◌, ◌++◌, Option, Some, None, ◌⊎◌, inl, inr, refl, sym, ◌∙◌, ap, ⊎_elim, append_assoc, append-nil, eqb-true, option_and_then}
+use Rattle.std.proofs.Common.{flat_map}
 use Rattle.std.specs.Prelude.{◌==◌}
 use Rattle.std.specs.List.{list_all, AllByRecursion}
 use Rattle.std.proofs.lemmas.Bool.{and_parts, and_from, not-true}
@@ -44,7 +45,9 @@ blank_step said b h =
     ap (λ t. cond t (Some (Inside, said)) (cond (is_blank b) (Some (Outside, said)) None)) (no_byte is_blank b 34 h quote_no_blank)
     ∙ ap (λ t. cond t (Some (Outside, said)) None) h
 
-inside_chars : (chars : List Char) (said rest : List ℕ) → list_all is_char chars ≡ true → strings Inside said (flat_map char_bytes chars ++ 34 ∷ rest) ≡ strings Outside (said ++ flat_map char_value chars) rest
+inside_chars : (chars : List Char) (said rest : List ℕ) → list_all is_char chars ≡ true
+    → strings Inside said (flat_map char_bytes chars ++ 34 ∷ rest)
+    ≡ strings Outside (said ++ flat_map char_value chars) rest
 inside_chars [] said rest h = ap (after_step rest) (close_step said) ∙ ap (λ v. strings Outside v rest) (sym (append-nil said))
 inside_chars (Plain b ∷ chars) said rest h =
     let parts = and_parts (is_char (Plain b)) (list_all is_char chars) h in
@@ -109,7 +112,10 @@ StringForm Outside said bytes value = Outer said bytes value
 StringForm Inside said bytes value = Inner said bytes value
 StringForm Escaped said bytes value = Later said bytes value
 
-outside_cases : (said : List ℕ) (b : ℕ) → ((b ≡ 34) × (string_step Outside said b ≡ Some (Inside, said))) ⊎ (((is_blank b ≡ true) × (string_step Outside said b ≡ Some (Outside, said))) ⊎ (string_step Outside said b ≡ None))
+outside_cases : (said : List ℕ) (b : ℕ)
+    → ((b ≡ 34) × (string_step Outside said b ≡ Some (Inside, said)))
+    ⊎ (((is_blank b ≡ true) × (string_step Outside said b ≡ Some (Outside, said)))
+    ⊎ (string_step Outside said b ≡ None))
 unfolding string_step
 outside_cases said b =
     let inside : Option (Place × List ℕ) = Some (Inside, said) in
@@ -119,7 +125,9 @@ outside_cases said b =
     (λ more. inr (⊎_elim (λ blank. inl blank) (λ other. inr other.2) more))
     (two_tests (b == 34) (is_blank b) inside outside None)
 
-inside_cases : (said : List ℕ) (b : ℕ) → ((b ≡ 34) × (string_step Inside said b ≡ Some (Outside, said))) ⊎ (((b ≡ 92) × (string_step Inside said b ≡ Some (Escaped, said))) ⊎ ((is_char (Plain b) ≡ true) × (string_step Inside said b ≡ Some (Inside, said ++ b ∷ []))))
+inside_cases : (said : List ℕ) (b : ℕ) → ((b ≡ 34) × (string_step Inside said b ≡ Some (Outside, said)))
+    ⊎ (((b ≡ 92) × (string_step Inside said b ≡ Some (Escaped, said)))
+    ⊎ ((is_char (Plain b) ≡ true) × (string_step Inside said b ≡ Some (Inside, said ++ b ∷ []))))
 unfolding string_step
 inside_cases said b = in_string {X = Option (Place × List ℕ)} b (Some (Outside, said)) (Some (Escaped, said)) (Some (Inside, said ++ b ∷ []))
 

@@ -1,5 +1,6 @@
 -- What is read is what the text stands for.
-use Rattle.std.proofs.Common.{◌≡◌, ◌≢◌, ℕ, false, cond, List, [], ◌∷◌, ◌++◌, length, take, drop, Option, Some, None, inl, inr, refl, sym, ◌∙◌, ap, subst, ⊎_elim, append_assoc, append-nil, eqb-true, flat_map, take-append-drop, option_and_then}
+use Rattle.std.proofs.Common.{◌≡◌, ◌≢◌, ℕ, false, cond, List, [], ◌∷◌, ◌++◌, length, take, drop, Option, Some, None, inl, inr, refl, sym, ◌∙◌, ap, subst, ⊎_elim, append_assoc, append-nil, eqb-true}
+use Rattle.std.proofs.Common.{flat_map, take-append-drop, option_and_then}
 use Rattle.std.specs.Prelude.{◌==◌}
 use Rattle.std.specs.List.{list_all, prefix_len, AllByRecursion}
 use Rattle.std.proofs.lemmas.Bool.{eqb-false, and_left}
@@ -16,7 +17,8 @@ use Rattle.mdl_text.specs.Bytes.{is_blank, is_name_byte, AreBlanks, IsName, line
 use Rattle.mdl_text.specs.Lines.{GivesParameter}
 use Rattle.mdl_text.specs.Stands.{Part, Builds, Stands}
 use Rattle.mdl_text.specs.Stands.Says.{Entry}
-use Rattle.mdl_text.specs.inner.Plain.{unblanked, trimmed, strings_from, list_from, added, free, reader_strings, opened, closed, listed, valued, after_name, named, fresh_text, fresh, begins_with_quote, step_in, step, if_closed, finish_in, finish, run, start}
+use Rattle.mdl_text.specs.inner.Plain.{unblanked, trimmed, strings_from, list_from, added, free, reader_strings, opened, closed, listed, valued, after_name, named, fresh_text, fresh}
+use Rattle.mdl_text.specs.inner.Plain.{begins_with_quote, step_in, step, if_closed, finish_in, finish, run, start}
 use Rattle.std.proofs.lemmas.Option.{cond_some}
 use Rattle.math_list.proofs.Tests.{cond_cases}
 use Rattle.mdl_text.proofs.Classes.{two_tests}
@@ -26,7 +28,17 @@ use Rattle.mdl_text.proofs.After.{item, AfterFree, AfterStrings, After, AfterRea
 
 -- what a line gives before its value, with the first bytes of the value
 gives_more : (line name before between said : List ℕ) → AreBlanks before → IsName name → AreBlanks between → between ≢ [] → line ≡ before ++ (name ++ (between ++ said)) → GivesParameter line name said
-gives_more line name before between said blanks is_name blanks_between some form = record { before = before; between = between; blanks = blanks; is_name = is_name; blanks_between = blanks_between; some_between = some; form = form }
+gives_more line name before between said blanks is_name blanks_between some form =
+    record {
+      before = before;
+      between = between;
+      blanks =
+          blanks;
+      is_name = is_name;
+      blanks_between = blanks_between;
+      some_between = some;
+      form = form;
+    }
 
 -- the first line of a list
 brackets_sound : (draft : Draft) (name line bytes : List ℕ) (next : Reader) (lines : List (List ℕ)) (items : List Item)
@@ -36,7 +48,9 @@ unfolding listed
 brackets_sound draft name line bytes next lines items one_line gives e after =
     let pre : List ℕ = gives.before ++ (name ++ (gives.between ++ 91 ∷ [])) in
     let shape : (rest : List ℕ) → gives.before ++ (name ++ (gives.between ++ 91 ∷ rest)) ≡ pre ++ rest =
-    λ rest. sym (append_assoc gives.before (name ++ (gives.between ++ 91 ∷ [])) rest ∙ ap (λ l. gives.before ++ l) (append_assoc name (gives.between ++ 91 ∷ []) rest ∙ ap (λ l. name ++ l) (append_assoc gives.between (91 ∷ []) rest))) in
+    λ rest. sym (append_assoc gives.before (name ++ (gives.between ++ 91 ∷ [])) rest
+    ∙ ap (λ l. gives.before ++ l) (append_assoc name (gives.between ++ 91 ∷ []) rest
+    ∙ ap (λ l. name ++ l) (append_assoc gives.between (91 ∷ []) rest))) in
     let form : line ≡ pre ++ bytes = gives.form ∙ shape bytes in
     let lines_of_both = line_parts pre bytes (subst IsOneLine form one_line) in
     let list = listed_sound draft name (91 ∷ []) 0 bytes next lines items lines_of_both.1 (list_from 0 bytes) refl e after in
@@ -74,7 +88,8 @@ valued_sound draft name line b bytes next lines items one_line stays brace gives
     let bare_reader : Option Reader = Some (free (added draft name (Bare (trimmed (b ∷ bytes))))) in
     ⊎_elim
     (λ quote. let is : b ≡ 34 = eqb-true b 34 quote.0 in
-    quoted_sound draft name line bytes next lines items (subst (λ n. GivesParameter line name (n ∷ bytes)) is gives) (ap (λ n. reader_strings draft name (strings_from [] (n ∷ bytes))) (sym is) ∙ sym quote.1 ∙ e) after)
+    quoted_sound draft name line bytes next lines items (subst (λ n. GivesParameter line name (n ∷ bytes)) is gives)
+    (ap (λ n. reader_strings draft name (strings_from [] (n ∷ bytes))) (sym is) ∙ sym quote.1 ∙ e) after)
     (λ r. ⊎_elim
     (λ bracket. let is : b ≡ 91 = eqb-true b 91 bracket.0 in
     brackets_sound draft name line bytes next lines items one_line (subst (λ n. GivesParameter line name (n ∷ bytes)) is gives) (sym bracket.1 ∙ e) after)
@@ -118,7 +133,18 @@ after_name_sound draft name line before rest between (b ∷ bytes) next lines it
     let whole : line ≡ before ++ (name ++ (between ++ b ∷ bytes)) = form ∙ ap (λ l. before ++ (name ++ l)) rest_is in
     ⊎_elim
     (λ brace. opened_sound draft line lines items one_line name bytes next
-    (λ blanks_after. record { before = before; between = between; after = bytes; blanks = blanks; is_name = is_name; blanks_between = blanks_between; blanks_after = blanks_after; form = whole ∙ ap (λ n. before ++ (name ++ (between ++ n ∷ bytes))) (eqb-true b 123 brace.0) })
+    (λ blanks_after. record {
+      before = before;
+      between = between;
+      after = bytes;
+      blanks = blanks;
+      is_name =
+          is_name;
+      blanks_between = blanks_between;
+      blanks_after = blanks_after;
+      form =
+          whole ∙ ap (λ n. before ++ (name ++ (between ++ n ∷ bytes))) (eqb-true b 123 brace.0);
+    })
     (sym brace.1 ∙ e) after)
     (λ r. ⊎_elim
     (λ touching. let no : None ≡ Some next = sym touching.1 ∙ e in cc)
@@ -190,7 +216,9 @@ after_strings_sound draft name said line before [] next lines items one_line bla
 after_strings_sound draft name said line before (b ∷ bytes) next lines items one_line blanks form e after =
     ⊎_elim
     (λ quote. let is : b ≡ 34 = eqb-true b 34 quote.0 in
-    further_sound draft name said line before bytes next lines items blanks (form ∙ ap (λ n. before ++ n ∷ bytes) is) (ap (λ n. reader_strings draft name (strings_from said (n ∷ bytes))) (sym is) ∙ quote.1) after)
+    further_sound draft name said line before bytes next lines items blanks
+    (form ∙ ap (λ n. before ++ n ∷ bytes) is)
+    (ap (λ n. reader_strings draft name (strings_from said (n ∷ bytes))) (sym is) ∙ quote.1) after)
     (λ other. strings_end draft name said (line ∷ lines) items (fresh_sound (added draft name (Quoted said)) line next lines items one_line other.1 after))
     (cond_cases (b == 34) (reader_strings draft name (strings_from said (b ∷ bytes))) (fresh (added draft name (Quoted said)) line) (Some next) e)
 
@@ -230,4 +258,11 @@ run_sound (line ∷ lines) reader items each e =
 pub reading_stands : (bytes : List ℕ) (items : List Item) → run start (lines_of bytes) ≡ Some items → Stands bytes (record { items = items })
 reading_stands bytes items e =
     let after = run_sound (lines_of bytes) start items (lines_each bytes) e in
-    record { parts = after.goes.parts; each = after.goes.each; whole = after.goes.whole; builds = subst (Builds 0 (flat_map (λ (part : Part). part.says ∷ []) after.goes.parts)) (sym after.total) after.goes.builds }
+    record {
+      parts = after.goes.parts;
+      each = after.goes.each;
+      whole = after.goes.whole;
+      builds =
+          subst (Builds 0 (flat_map (λ (part : Part). part.says ∷ []) after.goes.parts))
+          (sym after.total) after.goes.builds;
+    }

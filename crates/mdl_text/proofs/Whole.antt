@@ -1,5 +1,6 @@
 -- How far a text was read, what that says of it, and where it stops.
-use Rattle.std.proofs.Common.{◌≡◌, ℕ, zero, suc, ◌+◌, ◌-◌, ◌<◌, ◌≤◌, Bool, true, false, not, List, [], ◌∷◌, ◌++◌, length, take, drop, get_or, Some, None, inl, inr, refl, sym, ◌∙◌, ap, subst, append_assoc, append-nil, eqb-true, flat_map, arith, add-one, option_and_then, length-drop, count_by, take-append-drop, drop-cons}
+use Rattle.std.proofs.Common.{◌≡◌, ℕ, zero, suc, ◌+◌, ◌-◌, ◌<◌, ◌≤◌, Bool, true, false, not, List, [], ◌∷◌, ◌++◌, length, take, drop, get_or, Some, None, inl, inr, refl, sym, ◌∙◌, ap, subst}
+use Rattle.std.proofs.Common.{append_assoc, append-nil, eqb-true, flat_map, arith, add-one, option_and_then, length-drop, count_by, take-append-drop, drop-cons}
 use Rattle.std.specs.Prelude.{◌==◌}
 use Rattle.std.specs.List.{list_all}
 use Rattle.std.proofs.lemmas.Bool.{and_from}
@@ -167,10 +168,15 @@ one_line_before (x ∷ xs) (suc end) h =
     let other : not (x == 10) ≡ true = elim (x == 10) as (λ t. (x == 10) ≡ t → not t ≡ true) [ true ↦ λ e. absurd (h 0 first e) | false ↦ λ _. refl ] refl in
     and_from (not (x == 10)) (list_all (λ byte. not (byte == 10)) (take end xs)) other (one_line_before xs end (λ k below is. let up : suc k < suc end = omega arith in h (suc k) up is))
 
-pub first_newline : (rest : List ℕ) (end : ℕ) → IsFirstByte (is_byte 10) rest (Some end) → IsOneLine (take end rest) × (rest ≡ take end rest ++ 10 ∷ take (length rest - (end + 1)) (drop (end + 1) rest))
+pub first_newline : (rest : List ℕ) (end : ℕ) → IsFirstByte (is_byte 10) rest (Some end)
+    → IsOneLine (take end rest)
+    × (rest ≡ take end rest ++ 10 ∷ take (length rest - (end + 1)) (drop (end + 1) rest))
 first_newline rest end h = (
   one_line_before rest end (λ k below is. let low : 0 ≤ k = omega arith in h.0.before k low below is),
-  sym (take-append-drop end rest) ∙ ap (λ l. take end rest ++ l) (drop-cons rest end 0 h.0.high ∙ ap (λ b. b ∷ drop (suc end) rest) (eqb-true (get_or rest end 0) 10 h.1) ∙ ap (λ n. 10 ∷ drop n rest) (sym (add-one end)) ∙ ap (λ l. 10 ∷ l) (sym (whole (drop (end + 1) rest) (length-drop (end + 1) rest)))),
+  sym (take-append-drop end rest) ∙ ap (λ l. take end rest ++ l)
+      (drop-cons rest end 0 h.0.high ∙ ap (λ b. b ∷ drop (suc end) rest) (eqb-true (get_or rest end 0) 10 h.1)
+      ∙ ap (λ n. 10 ∷ drop n rest) (sym (add-one end))
+      ∙ ap (λ l. 10 ∷ l) (sym (whole (drop (end + 1) rest) (length-drop (end + 1) rest)))),
 )
   where
     whole : (l : List ℕ) → length l ≡ length rest - (end + 1) → take (length rest - (end + 1)) l ≡ l

@@ -39,7 +39,9 @@ chain_is : {A B : Type 0} (f : A → B) (last : Option B) (entries : List (List 
 chain_is f last [] text = refl
 chain_is {A} f last (entry ∷ entries) text = by (bytes_eq text entry.0) (chain_is f last entries text)
   where
-    by : (b : Bool) → chain f last entries text ≡ chosen f last (value_beside entries text) → cond b (Some (f entry.1)) (chain f last entries text) ≡ chosen f last (cond b (Some entry.1) (value_beside entries text))
+    by : (b : Bool) → chain f last entries text ≡ chosen f last (value_beside entries text)
+        → cond b (Some (f entry.1)) (chain f last entries text)
+        ≡ chosen f last (cond b (Some entry.1) (value_beside entries text))
     by true rest = refl
     by false rest = rest
 

@@ -45,7 +45,9 @@ both false b e h = absurd (true≢false (sym e))
 digits_front : (a b : List ℕ) → AreDigits (a ++ b) → AreDigits a
 digits_front [] b h = refl
 digits_front (c ∷ a) b h =
-    both (is_ascii_digit c) (list_all is_ascii_digit a) (and_left (is_ascii_digit c) (list_all is_ascii_digit (a ++ b)) h) (digits_front a b (and_right (is_ascii_digit c) (list_all is_ascii_digit (a ++ b)) h))
+    both (is_ascii_digit c) (list_all is_ascii_digit a)
+    (and_left (is_ascii_digit c) (list_all is_ascii_digit (a ++ b)) h)
+    (digits_front a b (and_right (is_ascii_digit c) (list_all is_ascii_digit (a ++ b)) h))
 
 digits_back : (a b : List ℕ) → AreDigits (a ++ b) → AreDigits b
 digits_back [] b h = h
@@ -144,7 +146,8 @@ written_same text x y a b =
     let second = marked text b.mark (b.sign ++ b.digits) b.form b.is_mark in
     let heads : first.0 ∷ (a.sign ++ a.digits) ≡ second.0 ∷ (b.sign ++ b.digits) = sym first.2 ∙ second.2 in
     let rest : a.sign ++ a.digits ≡ b.sign ++ b.digits = cc in
-    let same = sign_same a.sign b.sign a.negative b.negative a.digits b.digits a.is_sign b.is_sign (digits_alone a.digits a.are_digits a.some_digit) (digits_alone b.digits b.are_digits b.some_digit) rest in
+    let same = sign_same a.sign b.sign a.negative b.negative a.digits b.digits a.is_sign b.is_sign
+    (digits_alone a.digits a.are_digits a.some_digit) (digits_alone b.digits b.are_digits b.some_digit) rest in
     a.value ∙ ap₂ (λ (m : Bool) (d : List ℕ). signed m (digits_value 10 d)) same.0 same.1 ∙ sym b.value
 
 not_empty : (text : List ℕ) (x : ℤ) → IsWrittenExponent text x → text ≡ [] → ⊥
@@ -201,7 +204,9 @@ word_is_none c cs no_body no_minus no_plus text e numeral = by_sign numeral.nega
     by_sign : (negative : Bool) → IsSign numeral.sign negative → ⊥
     by_sign true s = signed_by 45 s no_minus refl
     by_sign false (inl s) =
-        not_begun is_body c cs (numeral.whole ++ (numeral.point ++ numeral.written)) (sym (sym e ∙ numeral.form ∙ ap (λ (l : List ℕ). l ++ (numeral.whole ++ (numeral.point ++ numeral.written))) s)) no_body begins
+        not_begun is_body c cs (numeral.whole ++ (numeral.point ++ numeral.written))
+        (sym (sym e ∙ numeral.form ∙ ap (λ (l : List ℕ). l
+        ++ (numeral.whole ++ (numeral.point ++ numeral.written))) s)) no_body begins
     by_sign false (inr s) = signed_by 43 s no_plus refl
 
 pub true_is_none : (text : List ℕ) → text ≡ codes "true" → ¬ IsNumeral text

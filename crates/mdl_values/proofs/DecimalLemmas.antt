@@ -27,7 +27,9 @@ not_long text d (inr (inr read)) long =
     long.long (rw (sym same.digits, sym same.fraction, sym same.exponent) read.short)
 
 -- what `read_decimal` promises, as one fact
-pub decimal_found : (text : List ℕ) (r : Result Decimal DecimalFault) → IfOk r (IsDecimal text) → ((r ≡ Err NotANumber) ↔ (¬ IsDecimalText text)) → ((r ≡ Err TooLong) ↔ IsLong text) → Finds (IsDecimal text) (result_ok r)
+pub decimal_found : (text : List ℕ) (r : Result Decimal DecimalFault) → IfOk r (IsDecimal text)
+    → ((r ≡ Err NotANumber) ↔ (¬ IsDecimalText text)) → ((r ≡ Err TooLong) ↔ IsLong text)
+    → Finds (IsDecimal text) (result_ok r)
 decimal_found text (Ok d) ok none long = ok
 decimal_found text (Err NotANumber) ok none long = λ d read. none.0 refl (decimal_text text d read)
 decimal_found text (Err TooLong) ok none long = λ d read. not_long text d read (long.0 refl)

@@ -40,7 +40,8 @@ all_read {A} R texts elements list i same whole here =
     none_left R (t ∷ ts) (suc i) h = none_left R ts i (omega arith)
 
 -- an element that has no value leaves none
-pub one_unread : {A : Type 0} (R : List ℕ → A → Type 0) (texts elements : List (List ℕ)) (i : ℕ) (text : List ℕ) → texts ≡ elements → i < length texts → get_or texts i [] ≡ text → ((value : A) → ¬ R text value)
+pub one_unread : {A : Type 0} (R : List ℕ → A → Type 0) (texts elements : List (List ℕ)) (i : ℕ) (text : List ℕ)
+    → texts ≡ elements → i < length texts → get_or texts i [] ≡ text → ((value : A) → ¬ R text value)
     → (list : List A) → ¬ AllZip R elements list
 one_unread {A} R texts elements i text same inside is none list all =
     let found = zip_at R texts list i [] inside (subst (λ (ts : List (List ℕ)). AllZip R ts list) (sym same) all) in

@@ -78,7 +78,9 @@ zip_one R one (x ∷ xs) (y ∷ ys) [] first second = absurd second
 zip_one {A} {B} R one (x ∷ xs) (y ∷ ys) (z ∷ zs) first second =
     ap (λ (w : B). w ∷ ys) (one x y z first.0 second.0) ∙ ap (λ (l : List B). z ∷ l) (zip_one R one xs ys zs first.1 second.1)
 
-pub one_list : {A : Type 0} (R : List ℕ → A → Type 0) → ((text : List ℕ) (y z : A) → R text y → R text z → y ≡ z) → (elements : Option (List (List ℕ))) (one other : List A) → IsListOf elements R one → IsListOf elements R other → one ≡ other
+pub one_list : {A : Type 0} (R : List ℕ → A → Type 0) → ((text : List ℕ) (y z : A) → R text y → R text z → y ≡ z)
+    → (elements : Option (List (List ℕ))) (one other : List A) → IsListOf elements R one → IsListOf elements R other
+    → one ≡ other
 one_list {A} R each elements one other is too =
     let same = some_same is.texts too.texts (sym is.are_elements ∙ too.are_elements) in
     zip_one R each too.texts one other (subst (λ (texts : List (List ℕ)). AllZip R texts one) same is.read) too.read

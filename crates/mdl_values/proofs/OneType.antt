@@ -13,7 +13,8 @@ use Rattle.mdl_values.proofs.TypeLemmas.{only_same, call_one, triple_one}
 -- ---- names
 
 -- where a text is this word, or the choice goes on
-by_word : (goal : Type 0) (text word : List ℕ) (type : FxType) (rest : Option FxType) (t : FxType) → (text ≡ word → goal) → (rest ≡ Some type → goal) → cond (bytes_eq text word) (Some t) rest ≡ Some type → goal
+by_word : (goal : Type 0) (text word : List ℕ) (type : FxType) (rest : Option FxType) (t : FxType)
+    → (text ≡ word → goal) → (rest ≡ Some type → goal) → cond (bytes_eq text word) (Some t) rest ≡ Some type → goal
 by_word goal text word type rest t here later e = by (bytes_eq text word) refl e
   where
     by : (b : Bool) → bytes_eq text word ≡ b → cond b (Some t) rest ≡ Some type → goal
@@ -76,7 +77,9 @@ one_fixdt text one other is too =
     let inside = call_one text is.inside too.inside is.call too.call in
     let three = triple_one is.first is.second is.third too.first too.second too.third (sym is.parts ∙ ap (λ (t : List ℕ). three_of (pieces_at 44 t)) inside ∙ too.parts) in
     one_word too.first too.second too.third one other
-    (subst (λ (a : List ℕ). IsWordOf a too.second too.third one) three.0 (subst (λ (b : List ℕ). IsWordOf is.first b too.third one) three.1 (subst (λ (c : List ℕ). IsWordOf is.first is.second c one) three.2 is.word))) too.word
+    (subst (λ (a : List ℕ). IsWordOf a too.second too.third one) three.0
+    (subst (λ (b : List ℕ). IsWordOf is.first b too.third one) three.1
+    (subst (λ (c : List ℕ). IsWordOf is.first is.second c one) three.2 is.word))) too.word
 
 none_pair : (pair : List ℕ × List ℕ) → None ≡ Some pair → ⊥
 none_pair pair e = cc

@@ -9,12 +9,15 @@ pub one_piece : (separator : ℕ) (text : List ℕ) → length text ≤ prefix_l
 one_piece separator [] whole = refl
 one_piece separator (byte ∷ bytes) whole = by_test (is_other separator byte) refl (one_piece separator bytes)
   where
-    by_test : (b : Bool) → is_other separator byte ≡ b → (length bytes ≤ prefix_len (is_other separator) bytes → pieces_at separator bytes ≡ bytes ∷ []) → pieces_at separator (byte ∷ bytes) ≡ (byte ∷ bytes) ∷ []
+    by_test : (b : Bool) → is_other separator byte ≡ b
+        → (length bytes ≤ prefix_len (is_other separator) bytes → pieces_at separator bytes ≡ bytes ∷ [])
+        → pieces_at separator (byte ∷ bytes) ≡ (byte ∷ bytes) ∷ []
     by_test true e more = rw e (ap (on_first byte) (more (let w = rw e at whole in omega arith)))
     by_test false e more = absurd (let w = rw e at whole in omega arith)
 
 -- else the first ends there, and the others stand behind it
-pub first_piece : (separator : ℕ) (text : List ℕ) (n : ℕ) → n ≡ prefix_len (is_other separator) text → n < length text → pieces_at separator text ≡ take n text ∷ pieces_at separator (drop (suc n) text)
+pub first_piece : (separator : ℕ) (text : List ℕ) (n : ℕ) → n ≡ prefix_len (is_other separator) text
+    → n < length text → pieces_at separator text ≡ take n text ∷ pieces_at separator (drop (suc n) text)
 first_piece separator [] n e short = absurd (omega arith)
 first_piece separator (byte ∷ bytes) n e short = by_test (is_other separator byte) refl n e short (first_piece separator bytes)
   where

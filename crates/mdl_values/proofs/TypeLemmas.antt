@@ -51,7 +51,9 @@ parts_found : (text inside first second third : List ℕ) (found : Option FxType
 parts_found text inside first second third None call parts none = λ type is.
     let same = call_one text is.inside inside is.call call in
     let three = triple_one is.first is.second is.third first second third (sym is.parts ∙ ap (λ (t : List ℕ). three_of (pieces_at 44 t)) same ∙ parts) in
-    none type (subst (λ (a : List ℕ). IsWordOf a second third type) three.0 (subst (λ (b : List ℕ). IsWordOf is.first b third type) three.1 (subst (λ (c : List ℕ). IsWordOf is.first is.second c type) three.2 is.word)))
+    none type (subst (λ (a : List ℕ). IsWordOf a second third type) three.0
+    (subst (λ (b : List ℕ). IsWordOf is.first b third type) three.1
+    (subst (λ (c : List ℕ). IsWordOf is.first is.second c type) three.2 is.word)))
 parts_found text inside first second third (Some type) call parts word = record {
   inside = inside;
   call = call;
@@ -66,7 +68,9 @@ pub fixdt_found : (text inside first second third : List ℕ) (behind : Option (
     → MatchOption behind (pieces_at 44 inside ≡ first ∷ []) (λ more. pieces_at 44 inside ≡ first ∷ pieces_at 44 more.now)
     → two_of (pieces_at 44 rest.now) ≡ Some (second, third) → Finds (IsWordOf first second third) found → Finds (IsFixdtText text) found
 fixdt_found text inside first second third behind rest found call some pieces two word =
-    let cut : pieces_at 44 inside ≡ first ∷ pieces_at 44 rest.now = subst (λ (o : Option (Bor (List ℕ))). MatchOption o (pieces_at 44 inside ≡ first ∷ []) (λ more. pieces_at 44 inside ≡ first ∷ pieces_at 44 more.now)) some pieces in
+    let cut : pieces_at 44 inside ≡ first ∷ pieces_at 44 rest.now =
+    subst (λ (o : Option (Bor (List ℕ))). MatchOption o (pieces_at 44 inside ≡ first ∷ [])
+    (λ more. pieces_at 44 inside ≡ first ∷ pieces_at 44 more.now)) some pieces in
     parts_found text inside first second third found call (ap three_of cut ∙ ap (with_first first) two) word
 
 no_type : (text : List ℕ) (type : FxType) → named_type text ≡ None → ¬ IsFixdtText text type → ¬ IsTypeText text type

@@ -84,7 +84,9 @@ driven_names Clocks = []
 any-declared : (n : List ℕ) (xs : List Mention) → list_any (is_declaration_of n) xs ≡ true → Contains (flat_map declared_names xs) n
 any-declared n [] e = absurd (false≢true e)
 any-declared n (Declares d ∷ xs) e = by (any-declared n xs) (bytes_eq d.name n) refl e where
-  by : (list_any (is_declaration_of n) xs ≡ true → Contains (flat_map declared_names xs) n) → (b : Bool) → bytes_eq d.name n ≡ b → (b || list_any (is_declaration_of n) xs) ≡ true → Contains (d.name ∷ flat_map declared_names xs) n
+  by : (list_any (is_declaration_of n) xs ≡ true → Contains (flat_map declared_names xs) n) → (b : Bool)
+      → bytes_eq d.name n ≡ b → (b || list_any (is_declaration_of n) xs) ≡ true
+      → Contains (d.name ∷ flat_map declared_names xs) n
   by rest true s f = subst (λ z. Contains (d.name ∷ flat_map declared_names xs) z) ((bytes_eq-Decides d.name n).0 s) (head-in d.name (flat_map declared_names xs))
   by rest false s f = tail-in d.name n (flat_map declared_names xs) (rest f)
 any-declared n (Drives c m ∷ xs) e = any-declared n xs e
@@ -95,7 +97,8 @@ any-driven : (n : List ℕ) (xs : List Mention) → list_any (is_driver_of n) xs
 any-driven n [] e = absurd (false≢true e)
 any-driven n (Declares d ∷ xs) e = any-driven n xs e
 any-driven n (Drives c m ∷ xs) e = by (any-driven n xs) (bytes_eq m n) refl e where
-  by : (list_any (is_driver_of n) xs ≡ true → Contains (flat_map driven_names xs) n) → (b : Bool) → bytes_eq m n ≡ b → (b || list_any (is_driver_of n) xs) ≡ true → Contains (m ∷ flat_map driven_names xs) n
+  by : (list_any (is_driver_of n) xs ≡ true → Contains (flat_map driven_names xs) n) → (b : Bool) → bytes_eq m n ≡ b
+      → (b || list_any (is_driver_of n) xs) ≡ true → Contains (m ∷ flat_map driven_names xs) n
   by rest true s f = subst (λ z. Contains (m ∷ flat_map driven_names xs) z) ((bytes_eq-Decides m n).0 s) (head-in m (flat_map driven_names xs))
   by rest false s f = tail-in m n (flat_map driven_names xs) (rest f)
 any-driven n (Reads m ∷ xs) e = any-driven n xs e
@@ -118,7 +121,9 @@ find-one n [] d a h s = absurd (none-in (Declares d) h)
 find-one n (Declares e ∷ xs) d a h s = ⊎_elim
     (λ q. let one : e ≡ d = declared-same e d q in cond-true (bytes_eq e.name n) (Some e) _ ((bytes_eq-Decides e.name n).1 (ap (λ (x : Declared). x.name) one ∙ s)) ∙ ap Some one)
     (λ t.
-    let other : bytes_eq e.name n ≡ false = unequal e.name n (λ q. a.0 (subst (λ z. Contains (flat_map declared_names xs) z) (s ∙ sym q) (flat-in declared_names xs (Declares d) d.name t (head-in d.name [])))) in
+    let other : bytes_eq e.name n ≡ false =
+    unequal e.name n (λ q. a.0 (subst (λ z. Contains (flat_map declared_names xs) z) (s ∙ sym q)
+    (flat-in declared_names xs (Declares d) d.name t (head-in d.name [])))) in
     cond-false (bytes_eq e.name n) (Some e) _ other ∙ find-one n xs d a.1 t s)
     (cons-cases (Declares e) (Declares d) xs h)
 find-one n (Drives c m ∷ xs) d a h s = find-one n xs d a (⊎_elim (λ q. absurd (cc q)) (λ t. t) (cons-cases (Drives c m) (Declares d) xs h)) s
@@ -145,7 +150,9 @@ module _ (o : Module) (declared-once : Apart (flat_map declared_names (mentions 
         (λ f. f)
         (cases_Bool (list_any (is_declaration_of d.name) front))
     at-place front after (Drives c n) whole =
-        let here : Contains (mentions o) (Drives c n) = subst (λ xs. Contains xs (Drives c n)) (sym whole) (Contains-append_right front (Drives c n ∷ after) (Drives c n) (head-in (Drives c n) after)) in
+        let here : Contains (mentions o) (Drives c n) =
+        subst (λ xs. Contains xs (Drives c n)) (sym whole)
+        (Contains-append_right front (Drives c n ∷ after) (Drives c n) (head-in (Drives c n) after)) in
         let first : list_any (is_driver_of n) front ≡ false = ⊎_elim
         (λ t. absurd (apart-cut (flat_map driven_names front) (flat_map driven_names after) n
         (subst (λ xs. Apart xs) (ap (flat_map driven_names) whole ∙ flat_map-append driven_names front (Drives c n ∷ after)) driven-once) (any-driven n front t)))

@@ -1,5 +1,6 @@
 -- The wrapper is clocked, and its ports carry what they must.
-use Rattle.std.proofs.Common.{◌≡◌, ◌≢◌, ℕ, ◌==◌, nat_le, Bool, true, false, ◌&&◌, ◌||◌, if◌then◌else◌, List, [], ◌∷◌, ◌++◌, map, flat_map, find, Contains, bytes_eq, codes, Some, None, refl, sym, ap, subst, ◌∙◌, arith}
+use Rattle.std.proofs.Common.{◌≡◌, ◌≢◌, ℕ, ◌==◌, nat_le, Bool, true, false, ◌&&◌, ◌||◌, if◌then◌else◌, List, [], ◌∷◌, ◌++◌, map, flat_map, find, Contains, bytes_eq, codes, Some, None, refl, sym, ap}
+use Rattle.std.proofs.Common.{subst, ◌∙◌, arith}
 use Rattle.std.specs.Prelude.{option_map}
 use Rattle.std.specs.List.{list_any, range_with_len}
 use Rattle.std.proofs.lemmas.Bool.{cond-false, eqb-false}
@@ -93,10 +94,14 @@ module _ (core : Module) (sound : BreaksNone core) (stallable : is_stallable cor
 
   reads-none : list_any clocked_read (mentions (wrapped core names counters)) ≡ false
   reads-none = ap (list_any clocked_read) (mentions-are core sound stallable names named counters)
-      ∙ none-append clocked_read (ports_part core names) (declared_part core names counters ++ (core_part core ++ (control_mentions ++ (helds core names ++ lates core names)))) (ports-none (ports_of (inputs_of core names) (outputs_of core names)))
+      ∙ none-append clocked_read (ports_part core names)
+      (declared_part core names counters ++ (core_part core
+      ++ (control_mentions ++ (helds core names ++ lates core names))))
+      (ports-none (ports_of (inputs_of core names) (outputs_of core names)))
       (none-append clocked_read (declared_part core names counters) (core_part core ++ (control_mentions ++ (helds core names ++ lates core names)))
       (alone-none (declared_items core counters (inputs_of core names) (outputs_of core names)) (declared-alone core sound stallable names named counters))
-      (none-append clocked_read (core_part core) (control_mentions ++ (helds core names ++ lates core names)) (renamed-none (flat_map item_mentions core.items) (λ n h. clk-unread core sound n (in-core n h)))
+      (none-append clocked_read (core_part core) (control_mentions ++ (helds core names ++ lates core names))
+      (renamed-none (flat_map item_mentions core.items) (λ n h. clk-unread core sound n (in-core n h)))
       (none-append clocked_read control_mentions (helds core names ++ lates core names) refl
       (none-append clocked_read (helds core names) (lates core names) (none-flat clocked_read held_mentions (inputs_of core names) held-none)
       (none-flat clocked_read late_mentions (outputs_of core names) late-none)))))
@@ -153,7 +158,9 @@ attributed core names counters =
     (found-none (lacks_attribute s) (bit_input (codes "clk")) (bit_input (codes "reset") ∷ input_port (flag (codes "in_valid")) ∷ behind) (lacks-clock s).0
     (found-none (lacks_attribute s) (bit_input (codes "reset")) (input_port (flag (codes "in_valid")) ∷ behind) (lacks-clock s).1
     (found-none (lacks_attribute s) (input_port (flag (codes "in_valid"))) behind (lacks-input s (codes "in_valid") 1 false)
-    (found-append (lacks_attribute s) ins after1 (found-map (lacks_attribute s) (λ column. input_port (column_port column)) (inputs_of core names) (λ column. lacks-input s column.name column.width column.signed))
+    (found-append (lacks_attribute s) ins after1
+    (found-map (lacks_attribute s) (λ column. input_port (column_port column)) (inputs_of core names)
+    (λ column. lacks-input s column.name column.width column.signed))
     (found-none (lacks_attribute s) (input_port (flag (codes "out_ready"))) after2 (lacks-input s (codes "out_ready") 1 false)
     (found-none (lacks_attribute s) (output_port (flag (codes "in_ready"))) after3 (lacks-output s (codes "in_ready") 1 false)
     (found-none (lacks_attribute s) (output_port (flag (codes "out_valid"))) outs (lacks-output s (codes "out_valid") 1 false)

@@ -98,17 +98,25 @@ module _ (nets : List ℕ → Net) where
       let a2 = assign-none end_name (is_last counters.phase)
       (bare-Binary Equal (Name phase_name) (number counters.phase.width counters.phase.most) (λ p. refl) (bare-Name phase_name) (bare-Literal (plain counters.phase.width counters.phase.most))) in
       let a3 = assign-none due_name is_due_now (bare-Binary Both (Name end_name) (is_zero wait_name) (λ p. refl) (bare-Name end_name) (bare-zero wait_name)) in
-      let a4 = assign-none fed_name (unless begin_name (codes "in_valid")) (bare-Binary Either (is_zero begin_name) (Name (codes "in_valid")) (λ p. refl) (bare-zero begin_name) (bare-Name (codes "in_valid"))) in
-      let a5 = assign-none open_name (unless due_name (codes "out_ready")) (bare-Binary Either (is_zero due_name) (Name (codes "out_ready")) (λ p. refl) (bare-zero due_name) (bare-Name (codes "out_ready"))) in
+      let a4 = assign-none fed_name (unless begin_name (codes "in_valid"))
+      (bare-Binary Either (is_zero begin_name) (Name (codes "in_valid")) (λ p. refl) (bare-zero begin_name)
+      (bare-Name (codes "in_valid"))) in
+      let a5 = assign-none open_name (unless due_name (codes "out_ready"))
+      (bare-Binary Either (is_zero due_name) (Name (codes "out_ready")) (λ p. refl) (bare-zero due_name)
+      (bare-Name (codes "out_ready"))) in
       let a6 = assign-none enable_name (both fed_name open_name) (bare-both fed_name open_name) in
       let a7 = assign-none (codes "in_ready") (both begin_name open_name) (bare-both begin_name open_name) in
       let a8 = assign-none (codes "out_valid") (both due_name fed_name) (bare-both due_name fed_name) in
       let more = bare-Binary Add (Name phase_name) (number counters.phase.width 1) (λ p. refl) (bare-Name phase_name) (bare-Literal (plain counters.phase.width 1)) in
       let fewer = bare-Binary Subtract (Name wait_name) (number counters.wait.width 1) (λ p. refl) (bare-Name wait_name) (bare-Literal (plain counters.wait.width 1)) in
       let a9 = always-none phase_name (plain counters.phase.width 0) (Name enable_name) (next_phase counters.phase) (bare-Name enable_name)
-      (bare-Choose (Name end_name) (number counters.phase.width 0) (Binary Add (Name phase_name) (number counters.phase.width 1)) (bare-Name end_name) (bare-Literal (plain counters.phase.width 0)) more) in
+      (bare-Choose (Name end_name) (number counters.phase.width 0)
+      (Binary Add (Name phase_name) (number counters.phase.width 1)) (bare-Name end_name)
+      (bare-Literal (plain counters.phase.width 0)) more) in
       let a10 = always-none wait_name (plain counters.wait.width counters.wait.most) (moving end_name) (next_wait counters.wait) (bare-both enable_name end_name)
-      (bare-Choose (Name wait_name) (Binary Subtract (Name wait_name) (number counters.wait.width 1)) (number counters.wait.width 0) (bare-Name wait_name) fewer (bare-Literal (plain counters.wait.width 0))) in
+      (bare-Choose (Name wait_name) (Binary Subtract (Name wait_name) (number counters.wait.width 1))
+      (number counters.wait.width 0) (bare-Name wait_name) fewer
+      (bare-Literal (plain counters.wait.width 0))) in
       (λ i. a1 i ++ (a2 i ++ (a3 i ++ (a4 i ++ (a5 i ++ (a6 i ++ (a7 i ++ (a8 i ++ (a9 i ++ (a10 i ++ []))))))))))
 
   held-none : (column : Column) → flat_map (item_multiplications nets) (held_driven column) ≡ []
@@ -128,7 +136,9 @@ module _ (nets : List ℕ → Net) where
       let shown : ModItem = Assign column.name (Name (stage_name column column.late)) in
       flat_map-append (item_multiplications nets) stages (shown ∷ [])
       ∙ none-both (flat_map (item_multiplications nets) stages) (item_multiplications nets shown ++ [])
-      (flat_map-map (item_multiplications nets) (stage_driven column) (range_with_len 0 column.late) ∙ flat-none (λ place. item_multiplications nets (stage_driven column place)) (range_with_len 0 column.late) (stage-none column))
+      (flat_map-map (item_multiplications nets) (stage_driven column) (range_with_len 0 column.late)
+      ∙ flat-none (λ place. item_multiplications nets (stage_driven column place))
+      (range_with_len 0 column.late) (stage-none column))
       (none-both (item_multiplications nets shown) [] (assign-none column.name (Name (stage_name column column.late)) (bare-Name (stage_name column column.late))) refl)
 
   -- nothing for each of a list of lists

@@ -1,5 +1,6 @@
 -- The transfers out of the wrapper carry what the core makes of the transfers in.
-use Rattle.std.proofs.Common.{◌≡◌, ◌≢◌, ℕ, suc, ◌+◌, ◌-◌, ◌*◌, ◌/◌, ◌%◌, ◌<◌, ◌≤◌, ◌==◌, ◌⊎◌, inl, inr, ⊎_elim, Bool, true, false, not, ◌&&◌, ◌||◌, if◌then◌else◌, List, map, length, drop, Contains, bytes_eq, codes, Some, None, refl, sym, ap, subst, ◌∙◌, arith}
+use Rattle.std.proofs.Common.{◌≡◌, ◌≢◌, ℕ, suc, ◌+◌, ◌-◌, ◌*◌, ◌/◌, ◌%◌, ◌<◌, ◌≤◌, ◌==◌, ◌⊎◌, inl, inr, ⊎_elim, Bool, true, false, not, ◌&&◌, ◌||◌, if◌then◌else◌, List, map, length, drop, Contains}
+use Rattle.std.proofs.Common.{bytes_eq, codes, Some, None, refl, sym, ap, subst, ◌∙◌, arith}
 use Rattle.std.proofs.lemmas.Bool.{and_parts, cases_Bool, cases_eq, cases_lt, not-false}
 use Rattle.std.proofs.lemmas.Nat.{div-add-mod', div-mul-add, mod_below, mul-le}
 use Rattle.std.proofs.lemmas.Slice.Eq.{bytes_eq-Decides}
@@ -178,7 +179,9 @@ module _ (one : OneRun) (thins : CountedRun) (core : Module) (sound : BreaksNone
       (λ same. same)
       (λ other. ⊎_elim
       (λ less. let h = counted-above (transfers in_side window rows) q p less a.hands_over in let x = a.earlier in let y = b.earlier in absurd (omega (arith, h, x, y)))
-      (λ more. let less : q < p = omega (arith, other, more) in let h = counted-above (transfers in_side window rows) p q less b.hands_over in let x = a.earlier in let y = b.earlier in absurd (omega (arith, h, x, y)))
+      (λ more. let less : q < p = omega (arith, other, more) in let h =
+      counted-above (transfers in_side window rows) p q less b.hands_over in let x =
+      a.earlier in let y = b.earlier in absurd (omega (arith, h, x, y)))
       (cases_lt p q))
       (cases_eq p q)
 
@@ -266,7 +269,9 @@ module _ (one : OneRun) (thins : CountedRun) (core : Module) (sound : BreaksNone
     }
 
     -- an input at a clock in both
-    module _ (clock place : ℕ) (is : IsClock core window (inside rows) clock place) (there : row_at cw clock < cw.rows) (port : Port) (c : Contains core.ports port) (on : port.input ≡ true) (other : port.name ≢ codes "clk") where
+    module _ (clock place : ℕ) (is : IsClock core window (inside rows) clock place)
+        (there : row_at cw clock < cw.rows) (port : Port) (c : Contains core.ports port) (on : port.input ≡ true)
+        (other : port.name ≢ codes "clk") where
       abbrev Goal : Type 0
       Goal = rows (row_at window place) (inner_name port.name) ≡ cinputs (row_at cw clock) port.name
 

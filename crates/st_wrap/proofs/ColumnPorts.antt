@@ -1,5 +1,6 @@
 -- What the wrapper has of each column, and which ports of the core are columns.
-use Rattle.std.proofs.Common.{◌≡◌, ℕ, zero, suc, ◌+◌, ◌-◌, drop, ◌<◌, ◌≤◌, max, fold, ⊎_elim, Bool, true, false, not, ◌&&◌, ◌||◌, if◌then◌else◌, List, [], ◌∷◌, map, filter, length, Contains, bytes_eq, codes, Some, refl, sym, ap, subst, ◌∙◌, arith}
+use Rattle.std.proofs.Common.{◌≡◌, ℕ, zero, suc, ◌+◌, ◌-◌, drop, ◌<◌, ◌≤◌, max, fold, ⊎_elim, Bool, true, false, not, ◌&&◌, ◌||◌, if◌then◌else◌, List, [], ◌∷◌, map, filter, length, Contains, bytes_eq}
+use Rattle.std.proofs.Common.{codes, Some, refl, sym, ap, subst, ◌∙◌, arith}
 use Rattle.std.specs.Prelude.{slice_get}
 use Rattle.std.specs.List.{range_with_len, zip}
 use Rattle.std.proofs.lemmas.Bool.{and_parts, not-true, or_parts}
@@ -81,7 +82,9 @@ module _ (core : Module) (counters : Counters) (inputs outputs : List Column) wh
   abbrev m : Module
   m = made_of core counters inputs outputs
 
-  pub has-input : (column : Column) → Contains inputs column → Contains (wires_of core) (Wire column.signed column.width (inner_name column.inner)) → HasInput (made_of core counters inputs outputs) column
+  pub has-input : (column : Column) → Contains inputs column
+      → Contains (wires_of core) (Wire column.signed column.width (inner_name column.inner))
+      → HasInput (made_of core counters inputs outputs) column
   has-input column c w = record {
     port = input-port core counters inputs outputs column c;
     wire = wire-there core counters inputs outputs _ w;
@@ -90,7 +93,9 @@ module _ (core : Module) (counters : Counters) (inputs outputs : List Column) wh
     clocked = (driven-there core counters inputs outputs).input column c _ (1, omega arith, refl);
   }
 
-  pub has-output : (column : Column) → Contains outputs column → Contains (wires_of core) (Wire column.signed column.width (inner_name column.inner)) → HasOutput (made_of core counters inputs outputs) column
+  pub has-output : (column : Column) → Contains outputs column
+      → Contains (wires_of core) (Wire column.signed column.width (inner_name column.inner))
+      → HasOutput (made_of core counters inputs outputs) column
   has-output column c w = record {
     port = output-port core counters inputs outputs column c;
     wire = wire-there core counters inputs outputs _ w;

@@ -1,5 +1,6 @@
 -- The core's inputs at the clocks of a sample are those of the sample's transfer in.
-use Rattle.std.proofs.Common.{◌≡◌, ◌≢◌, ℕ, zero, suc, ◌+◌, ◌-◌, ◌/◌, ◌%◌, ◌^◌, ◌<◌, ◌==◌, max, ◌⊎◌, inl, inr, ⊎_elim, Bool, true, false, not, ◌&&◌, if◌then◌else◌, List, Contains, codes, Some, refl, sym, ap, subst, ◌∙◌, arith}
+use Rattle.std.proofs.Common.{◌≡◌, ◌≢◌, ℕ, zero, suc, ◌+◌, ◌-◌, ◌/◌, ◌%◌, ◌^◌, ◌<◌, ◌==◌, max, ◌⊎◌, inl, inr, ⊎_elim, Bool, true, false, not, ◌&&◌, if◌then◌else◌, List, Contains, codes, Some, refl}
+use Rattle.std.proofs.Common.{sym, ap, subst, ◌∙◌, arith}
 use Rattle.std.proofs.Math.Nat.{mod-eq_of_lt}
 use Rattle.std.proofs.lemmas.Bool.{cases_Bool, cond-true, cond-false, eq-eqb, eqb-true, eqb-false}
 use Rattle.vl_ast.specs.declared.expressions.Expr.{Expr}
@@ -80,7 +81,8 @@ pub record HasInput (m : Module) (column : Column) : Type 0 where
   pub assigned : Contains m.items (Assign (inner_name column.inner) (Choose (Name begin_name) (Name column.name) (Name (held_name column.name))))
   pub clocked : Contains m.items (Always (held_name column.name) (plain column.width 0) (Some (moving begin_name)) (Name column.name))
 
-module _ {core m : Module} {counters : Counters} {window : Window} {start : Row} {inputs rows : Rows} (s : Setting core m counters window start inputs rows) (column : Column) (has : HasInput m column) where
+module _ {core m : Module} {counters : Counters} {window : Window} {start : Row} {inputs rows : Rows}
+    (s : Setting core m counters window start inputs rows) (column : Column) (has : HasInput m column) where
   abbrev test : ℕ → Bool
   test place = moves counters (rows (row_at window place))
 
@@ -180,7 +182,9 @@ module _ {core m : Module} {counters : Counters} {window : Window} {start : Row}
         let c : counted test (suc place) ≡ counted test place + 1 = cond-true (test place) (suc (counted test place)) (counted test place) on ∙ omega arith in
         let more : counted test place % F ≢ F - 1 = λ e. some (ap (λ n. n % F) c ∙ next-first F (some-cycles core) (counted test place) e) in
         let sample : counted test place / F ≡ counted test (suc place) / F = sym (ap (λ n. n / F) c ∙ next-same F (some-cycles core) (counted test place) more) in
-        let value : rows (row_at window (suc place)) (held_name column.name) ≡ (if counted test place % F == 0 then rows (row_at window place) column.name else rows (row_at window place) (held_name column.name)) =
+        let value : rows (row_at window (suc place)) (held_name column.name)
+        ≡ (if counted test place % F == 0 then rows (row_at window place) column.name else rows
+        (row_at window place) (held_name column.name)) =
         stepped ∙ (λ i. if on i && begins-is s place inside i then rows (row_at window place) column.name else rows (row_at window place) (held_name column.name)) in
         ⊎_elim
         (λ t. record {

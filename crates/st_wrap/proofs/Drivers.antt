@@ -24,7 +24,8 @@ use Rattle.st_wrap.specs.inner.Wrapper.{declared_items, inputs_of, items_of, out
 use Rattle.st_wrap.proofs.Apart.{doubly-none, one-declaration}
 use Rattle.st_wrap.proofs.SingleDrivers.{all-driven-once, column-port}
 use Rattle.st_wrap.proofs.Once.{all-declared-once}
-use Rattle.st_wrap.proofs.NamePlaces.{EachDrives, core_part, declared-alone, declared_part, drives-alone, drives-append, drives-at, drives-flat, drives-ports, drives-renamed, helds, late_mentions, lates, mentions-are, output-unshared, ports_part}
+use Rattle.st_wrap.proofs.NamePlaces.{EachDrives, core_part, declared-alone, declared_part, drives-alone, drives-append, drives-at, drives-flat, drives-ports, drives-renamed, helds, late_mentions}
+use Rattle.st_wrap.proofs.NamePlaces.{lates, mentions-are, output-unshared, ports_part}
 use Rattle.st_wrap.proofs.NameReads.{control_mentions, held_mentions, stage_mentions}
 use Rattle.st_wrap.proofs.Structure.{core-there, declared-there, flag-there, output-port, wire-of, wire-there}
 
@@ -35,11 +36,14 @@ module _ (core : Module) (sound : BreaksNone core) (stallable : is_stallable cor
   -- a place of an item, and of a port
   pub item-mention : (i : ModItem) (x : Mention) → Contains (wrapped core names counters).items i → Contains (item_mentions i) x → Contains (mentions (wrapped core names counters)) x
   item-mention i x h c = Contains-append_right (map (λ port. Declares (port_declared port)) (ports_of (inputs_of core names) (outputs_of core names)))
-      (flat_map item_mentions (items_of core counters (inputs_of core names) (outputs_of core names))) x (flat-in item_mentions (items_of core counters (inputs_of core names) (outputs_of core names)) i x h c)
+      (flat_map item_mentions (items_of core counters (inputs_of core names) (outputs_of core names))) x
+      (flat-in item_mentions (items_of core counters (inputs_of core names) (outputs_of core names)) i x h c)
 
   pub port-mention : (port : Port) → Contains (ports_of (inputs_of core names) (outputs_of core names)) port → Contains (mentions (wrapped core names counters)) (Declares (port_declared port))
   port-mention port h = Contains-append_left (map (λ port. Declares (port_declared port)) (ports_of (inputs_of core names) (outputs_of core names)))
-      (flat_map item_mentions (items_of core counters (inputs_of core names) (outputs_of core names))) (Declares (port_declared port)) (map-in (λ port. Declares (port_declared port)) (ports_of (inputs_of core names) (outputs_of core names)) port h)
+      (flat_map item_mentions (items_of core counters (inputs_of core names) (outputs_of core names)))
+      (Declares (port_declared port)) (map-in (λ port. Declares (port_declared port))
+      (ports_of (inputs_of core names) (outputs_of core names)) port h)
 
   pub declared-is : (d : Declared) → Contains (mentions (wrapped core names counters)) (Declares d) → declaration_of (wrapped core names counters) d.name ≡ Some d
   declared-is d h = one-declaration (wrapped core names counters) (all-declared-once core sound stallable names named counters) (all-driven-once core sound stallable names named counters) d h
@@ -78,9 +82,13 @@ module _ (core : Module) (sound : BreaksNone core) (stallable : is_stallable cor
             (
               enable-may,
               (
-                flag-at (output_port (flag (codes "in_ready"))) (flag-there core counters (inputs_of core names) (outputs_of core names) (output_port (flag (codes "in_ready"))) (1, omega arith, refl)) refl,
+                flag-at (output_port (flag (codes "in_ready")))
+                    (flag-there core counters (inputs_of core names) (outputs_of core names)
+                    (output_port (flag (codes "in_ready"))) (1, omega arith, refl)) refl,
                 (
-                  flag-at (output_port (flag (codes "out_valid"))) (flag-there core counters (inputs_of core names) (outputs_of core names) (output_port (flag (codes "out_valid"))) (2, omega arith, refl)) refl,
+                  flag-at (output_port (flag (codes "out_valid")))
+                      (flag-there core counters (inputs_of core names) (outputs_of core names)
+                      (output_port (flag (codes "out_valid"))) (2, omega arith, refl)) refl,
                   (
                     may-by true _ (control-at _ (5, omega arith, refl) _ (head-in _ [])) refl,
                     (may-by true _ (control-at _ (6, omega arith, refl) _ (head-in _ [])) refl, tt),
@@ -105,8 +113,12 @@ module _ (core : Module) (sound : BreaksNone core) (stallable : is_stallable cor
   late-may : (column : Column) → Contains (outputs_of core names) column → EachDrives May (late_mentions column)
   late-may column c =
       drives-append May (flat_map (stage_mentions column) (range_with_len 0 column.late)) (Drives false column.name ∷ Reads (stage_name column column.late) ∷ [])
-      (drives-flat May (stage_mentions column) (range_with_len 0 column.late) (λ place h.
-      (may-by true _ (item-mention _ _ ((declared-there core counters (inputs_of core names) (outputs_of core names)).output column c _ (map-in (stage_declared column) (range_with_len 0 column.late) place h)) (head-in _ [])) refl, tt)))
+      (drives-flat May (stage_mentions column) (range_with_len 0 column.late) (λ place h. (
+        may-by true _ (item-mention _ _ ((declared-there core counters (inputs_of core names)
+            (outputs_of core names)).output column c _
+            (map-in (stage_declared column) (range_with_len 0 column.late) place h)) (head-in _ [])) refl,
+        tt,
+      )))
       (flag-at (output_port (column_port column)) (output-port core counters (inputs_of core names) (outputs_of core names) column c) refl, tt)
 
   -- what the core drives, it may
@@ -144,7 +156,10 @@ module _ (core : Module) (sound : BreaksNone core) (stallable : is_stallable cor
 
   all-may : (c : Bool) (n : List ℕ) → Contains (mentions (wrapped core names counters)) (Drives c n) → May c n
   all-may = drives-at May (mentions (wrapped core names counters)) (subst (λ xs. EachDrives May xs) (sym (mentions-are core sound stallable names named counters))
-      (drives-append May (ports_part core names) (declared_part core names counters ++ (core_part core ++ (control_mentions ++ (helds core names ++ lates core names)))) (drives-ports May (ports_of (inputs_of core names) (outputs_of core names)))
+      (drives-append May (ports_part core names)
+      (declared_part core names counters ++ (core_part core
+      ++ (control_mentions ++ (helds core names ++ lates core names))))
+      (drives-ports May (ports_of (inputs_of core names) (outputs_of core names)))
       (drives-append May (declared_part core names counters) (core_part core ++ (control_mentions ++ (helds core names ++ lates core names)))
       (drives-alone May (declared_items core counters (inputs_of core names) (outputs_of core names)) (declared-alone core sound stallable names named counters))
       (drives-append May (core_part core) (control_mentions ++ (helds core names ++ lates core names)) (drives-renamed May (flat_map item_mentions core.items) core-may)

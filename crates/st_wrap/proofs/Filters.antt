@@ -104,7 +104,9 @@ module _ {A B C : Type 0} (f : A × B → C) (test : A → Bool) (xs : List A) (
 
 -- ---- ranges
 
-pub mapped-more : {A : Type 0} (f : ℕ → A) (count : ℕ) {old mid new : Listing A} → Lists old mid (map f (range_with_len 0 count)) → Lists mid new (f count ∷ []) → Lists old new (map f (range_with_len 0 (count + 1)))
+pub mapped-more : {A : Type 0} (f : ℕ → A) (count : ℕ) {old mid new : Listing A}
+    → Lists old mid (map f (range_with_len 0 count)) → Lists mid new (f count ∷ [])
+    → Lists old new (map f (range_with_len 0 (count + 1)))
 mapped-more f count before put = lists-as (sym (map-range_with_len_more f 0 count count (omega arith))) (both before put)
 
 -- ---- room for a number

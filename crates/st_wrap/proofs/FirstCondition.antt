@@ -101,7 +101,9 @@ driven-of all before Clocks e = tt
 pub known-of : (all before xs : List Mention) → first_fault (is_undriven all) before xs ≡ None → AreKnown before xs
 known-of all before [] e = tt
 known-of all before (x ∷ xs) e = by (known-of all (before ++ x ∷ []) xs) (is_undriven all before x) refl e where
-  by : (first_fault (is_undriven all) (before ++ x ∷ []) xs ≡ None → AreKnown (before ++ x ∷ []) xs) → (b : Bool) → is_undriven all before x ≡ b → (if b then Some (mentioned x) else first_fault (is_undriven all) (before ++ x ∷ []) xs) ≡ None
+  by : (first_fault (is_undriven all) (before ++ x ∷ []) xs ≡ None → AreKnown (before ++ x ∷ []) xs) → (b : Bool)
+      → is_undriven all before x ≡ b
+      → (if b then Some (mentioned x) else first_fault (is_undriven all) (before ++ x ∷ []) xs) ≡ None
       → IsKnown before x × AreKnown (before ++ x ∷ []) xs
   by rest true s f = absurd (cc f)
   by rest false s f = (driven-of all before x s, rest f)

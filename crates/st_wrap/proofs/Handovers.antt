@@ -1,5 +1,6 @@
 -- Which rows hand over samples, and how many did before, by how many rows moved.
-use Rattle.std.proofs.Common.{◌≡◌, ◌≢◌, ℕ, zero, suc, ◌+◌, ◌-◌, ◌/◌, ◌%◌, ◌<◌, ◌≤◌, ◌==◌, ◌⊎◌, inl, inr, ⊎_elim, Bool, true, false, not, ◌&&◌, ◌||◌, if◌then◌else◌, codes, None, refl, sym, ap, ◌∙◌, arith}
+use Rattle.std.proofs.Common.{◌≡◌, ◌≢◌, ℕ, zero, suc, ◌+◌, ◌-◌, ◌/◌, ◌%◌, ◌<◌, ◌≤◌, ◌==◌, ◌⊎◌, inl, inr, ⊎_elim, Bool, true, false, not, ◌&&◌, ◌||◌, if◌then◌else◌, codes, None, refl, sym, ap, ◌∙◌}
+use Rattle.std.proofs.Common.{arith}
 use Rattle.std.proofs.lemmas.Bool.{and_parts, cases_Bool, cond-true, cond-false, eqb-true, eqb-false, ne_eqb}
 use Rattle.vl_ast.specs.declared.modules.Module.{Module}
 use Rattle.vl_ast.specs.Conditions.{IsAcyclic, no_reset}
@@ -148,10 +149,15 @@ module _ {core m : Module} {counters : Counters} {window : Window} {start : Row}
       let valid = ap (λ n. n == 1) (valid-is m counters s.acyclic s.has window.rows start inputs rows s.runs (row_at window place) below) ∙ truth-one (due counters row && fed counters row) in
       ap (λ b. b && row (codes "out_ready") == 1) valid ∙ out-both (due counters row) (fed counters row) (row (codes "out_ready") == 1)
 
-  pub begins-is : (place : ℕ) → row_at window place < window.rows → begins counters (rows (row_at window place)) ≡ (counted (λ place. moves counters (rows (row_at window place))) place % clocks_of core == 0)
+  pub begins-is : (place : ℕ) → row_at window place < window.rows
+      → begins counters (rows (row_at window place))
+      ≡ (counted (λ place. moves counters (rows (row_at window place))) place % clocks_of core == 0)
   begins-is place below = ap (λ n. n == 0) (at-place place below).phase
 
-  pub ends-is : (place : ℕ) → row_at window place < window.rows → ends counters (rows (row_at window place)) ≡ (counted (λ place. moves counters (rows (row_at window place))) place % clocks_of core == clocks_of core - 1)
+  pub ends-is : (place : ℕ) → row_at window place < window.rows
+      → ends counters (rows (row_at window place))
+      ≡ (counted
+      (λ place. moves counters (rows (row_at window place))) place % clocks_of core == clocks_of core - 1)
   ends-is place below = let at = at-place place below in (λ i. at.phase i == s.counts.phase i)
 
   due-here : (place : ℕ) → row_at window place < window.rows → due counters (rows (row_at window place)) ≡ (counted test place % F == F - 1 && K - counted test place / F == 0)
@@ -159,7 +165,8 @@ module _ {core m : Module} {counters : Counters} {window : Window} {start : Row}
 
   -- how many clocks pass a side, told by how many move
   passed : (passes : ℕ → Bool) (told : ℕ → ℕ) (when : ℕ → Bool) → told 0 ≡ 0 → ((place : ℕ) → row_at window place < window.rows → passes place ≡ (test place && when (counted test place)))
-      → ((c : ℕ) (b : Bool) → (if b && when c then suc (told c) else told c) ≡ told (if b then suc c else c)) → (place : ℕ) → row_at window place < window.rows → counted passes place ≡ told (counted test place)
+      → ((c : ℕ) (b : Bool) → (if b && when c then suc (told c) else told c) ≡ told (if b then suc c else c))
+      → (place : ℕ) → row_at window place < window.rows → counted passes place ≡ told (counted test place)
   passed passes told when none each step zero below = sym none
   passed passes told when none each step (suc place) below =
       let inside : row_at window place < window.rows = omega (arith, below) in
@@ -167,12 +174,18 @@ module _ {core m : Module} {counters : Counters} {window : Window} {start : Row}
       let here = each place inside in
       (λ i. if here i then suc (before i) else before i) ∙ step (counted test place) (test place)
 
-  pub ins-are : (place : ℕ) → row_at window place < window.rows → counted (transfers in_side window rows) place ≡ begun (clocks_of core) (latest_in core) (some-cycles core) (counted (λ place. moves counters (rows (row_at window place))) place)
+  pub ins-are : (place : ℕ) → row_at window place < window.rows
+      → counted (transfers in_side window rows) place
+      ≡ begun (clocks_of core) (latest_in core) (some-cycles core)
+      (counted (λ place. moves counters (rows (row_at window place))) place)
   ins-are =
       passed (transfers in_side window rows) (begun F K (some-cycles core)) (λ c. c % F == 0) (begun-zero F K (some-cycles core))
       (λ place below. in-transfer place below ∙ ap (λ b. test place && b) (begins-is place below)) (begun-step F K (some-cycles core))
 
-  pub outs-are : (place : ℕ) → row_at window place < window.rows → counted (transfers out_side window rows) place ≡ given (clocks_of core) (latest_in core) (some-cycles core) (counted (λ place. moves counters (rows (row_at window place))) place)
+  pub outs-are : (place : ℕ) → row_at window place < window.rows
+      → counted (transfers out_side window rows) place
+      ≡ given (clocks_of core) (latest_in core) (some-cycles core)
+      (counted (λ place. moves counters (rows (row_at window place))) place)
   outs-are =
       passed (transfers out_side window rows) (given F K (some-cycles core)) (λ c. c % F == F - 1 && K - c / F == 0) (given-zero F K (some-cycles core))
       (λ place below. out-transfer place below ∙ ap (λ b. test place && b) (due-here place below)) (given-step F K (some-cycles core))

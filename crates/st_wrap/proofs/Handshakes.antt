@@ -1,5 +1,6 @@
 -- The counters of the wrapper count the rows that move, so its four signals shake hands.
-use Rattle.std.proofs.Common.{◌≡◌, ℕ, zero, suc, ◌+◌, ◌-◌, ◌*◌, ◌/◌, ◌%◌, ◌^◌, ◌<◌, ◌≤◌, ◌==◌, ⊎_elim, Bool, true, false, not, ◌&&◌, ◌||◌, if◌then◌else◌, codes, Some, None, refl, sym, ap, subst, ◌∙◌, arith, pow_pos}
+use Rattle.std.proofs.Common.{◌≡◌, ℕ, zero, suc, ◌+◌, ◌-◌, ◌*◌, ◌/◌, ◌%◌, ◌^◌, ◌<◌, ◌≤◌, ◌==◌, ⊎_elim, Bool, true, false, not, ◌&&◌, ◌||◌, if◌then◌else◌, codes, Some, None, refl, sym, ap, subst, ◌∙◌}
+use Rattle.std.proofs.Common.{arith, pow_pos}
 use Rattle.std.proofs.Math.Nat.{mod-eq_of_lt}
 use Rattle.std.proofs.lemmas.Bool.{cases_Bool, cond-true, cond-false, eq-eqb, eqb-true, eqb-false}
 use Rattle.std.proofs.lemmas.Nat.{mod-mul-add, mod_below}
@@ -142,7 +143,9 @@ module _ (core : Module) where
       next-phase-is =
           runs.steps k below phase_name (plain counters.phase.width 0) (Some (Name enable_name)) (next_phase counters.phase) (has.driven _ (8, omega arith, refl))
           ∙ cond-false (row (codes "reset") == 1) _ _ off
-          ∙ (λ i. if enable-true m counters acyclic has window.rows start inputs rows runs k inside i then assigned (nets_of m) row (phase-net m counters acyclic has i).width (next_phase counters.phase) else row phase_name)
+          ∙ (λ i. if enable-true m counters acyclic has window.rows start inputs rows runs k inside i then assigned
+          (nets_of m) row (phase-net m counters acyclic has i).width
+          (next_phase counters.phase) else row phase_name)
           ∙ ap (λ n. if moves counters row then n else row phase_name)
           (up-value (nets_of m) row counters.phase.width phase_name (phase-net m counters acyclic has) end_name
           ∙ ap (λ b. (if b then (row phase_name + 1) % 2 ^ counters.phase.width else 0) % 2 ^ counters.phase.width)
@@ -158,7 +161,9 @@ module _ (core : Module) where
       next-wait-is =
           runs.steps k below wait_name (plain counters.wait.width counters.wait.most) (Some (moving end_name)) (next_wait counters.wait) (has.driven _ (9, omega arith, refl))
           ∙ cond-false (row (codes "reset") == 1) _ _ off
-          ∙ (λ i. if end-moves m counters acyclic has window.rows start inputs rows runs k inside i then assigned (nets_of m) row (wait-net m counters acyclic has i).width (next_wait counters.wait) else row wait_name)
+          ∙ (λ i. if end-moves m counters acyclic has window.rows start inputs rows runs k inside i then assigned
+          (nets_of m) row (wait-net m counters acyclic has i).width
+          (next_wait counters.wait) else row wait_name)
           ∙ ap (λ n. if moves counters row && ends counters row then n else row wait_name)
           (down-value (nets_of m) row counters.wait.width wait_name (wait-net m counters acyclic has) ∙ cut-down counters.wait.width (row wait_name) wait-low)
           ∙ (λ i. if moves counters row && ends-is i then at.wait i - 1 else at.wait i)

@@ -1,5 +1,6 @@
 -- At a transfer out each output shows what the core showed at the last clock of its sample.
-use Rattle.std.proofs.Common.{◌≡◌, ℕ, zero, suc, ◌+◌, ◌-◌, ◌*◌, ◌/◌, ◌%◌, ◌^◌, ◌<◌, ◌≤◌, ◌==◌, ◌⊎◌, inl, inr, ⊎_elim, Bool, true, false, ◌&&◌, if◌then◌else◌, List, Contains, codes, Some, refl, sym, ap, subst, ◌∙◌, arith}
+use Rattle.std.proofs.Common.{◌≡◌, ℕ, zero, suc, ◌+◌, ◌-◌, ◌*◌, ◌/◌, ◌%◌, ◌^◌, ◌<◌, ◌≤◌, ◌==◌, ◌⊎◌, inl, inr, ⊎_elim, Bool, true, false, ◌&&◌, if◌then◌else◌, List, Contains, codes, Some, refl, sym}
+use Rattle.std.proofs.Common.{ap, subst, ◌∙◌, arith}
 use Rattle.std.proofs.lemmas.Bool.{cases_Bool, cases_eq, cond-true, cond-false, eqb-true, eqb-false, ne_eqb}
 use Rattle.std.proofs.lemmas.Nat.{div-add-mod'}
 use Rattle.vl_ast.specs.declared.expressions.Expr.TheVariants.{Name}
@@ -34,7 +35,8 @@ pub record HasOutput (m : Module) (column : Column) : Type 0 where
   pub steps : (place : ℕ) → place < column.late → Contains m.items (stage_driven column place)
   pub shown : Contains m.items (Assign column.name (Name (stage_name column column.late)))
 
-module _ {core m : Module} {counters : Counters} {window : Window} {start : Row} {inputs rows : Rows} (s : Setting core m counters window start inputs rows) (column : Column) (has : HasOutput m column) where
+module _ {core m : Module} {counters : Counters} {window : Window} {start : Row} {inputs rows : Rows}
+    (s : Setting core m counters window start inputs rows) (column : Column) (has : HasOutput m column) where
   abbrev test : ℕ → Bool
   test place = moves counters (rows (row_at window place))
 
@@ -74,7 +76,9 @@ module _ {core m : Module} {counters : Counters} {window : Window} {start : Row}
       subst (λ n. rows k n < 2 ^ column.width) t.name (subst (λ (n : Net). rows k t.declared.name < 2 ^ n.width) t.net f)
 
   port-net : nets_of m column.name ≡ word_of column
-  port-net = ap net_or_none (is-declared m s.acyclic.driven s.acyclic.once (port_declared (output_port (column_port column))) (in-port m s.acyclic.driven s.acyclic.once (output_port (column_port column)) has.port))
+  port-net = ap net_or_none (is-declared m s.acyclic.driven s.acyclic.once
+      (port_declared (output_port (column_port column)))
+      (in-port m s.acyclic.driven s.acyclic.once (output_port (column_port column)) has.port))
 
   output-is : (k : ℕ) → k < window.rows → rows k column.name ≡ rows k (stage_name column column.late)
   output-is k below =

@@ -1,5 +1,6 @@
 -- The wrapper's assignments read each other in no cycle, where the core's don't.
-use Rattle.std.proofs.Common.{◌≡◌, ℕ, suc, ◌+◌, ◌-◌, ◌%◌, ◌<◌, ◌==◌, ◌⊎◌, inl, inr, ⊎_elim, Bool, true, false, if◌then◌else◌, List, [], ◌∷◌, ◌++◌, map, flat_map, length, slice_index_or, Contains, codes, Option, None, refl, sym, ap, subst, ◌∙◌, arith}
+use Rattle.std.proofs.Common.{◌≡◌, ℕ, suc, ◌+◌, ◌-◌, ◌%◌, ◌<◌, ◌==◌, ◌⊎◌, inl, inr, ⊎_elim, Bool, true, false, if◌then◌else◌, List, [], ◌∷◌, ◌++◌, map, flat_map, length, slice_index_or, Contains}
+use Rattle.std.proofs.Common.{codes, Option, None, refl, sym, ap, subst, ◌∙◌, arith}
 use Rattle.std.specs.List.{range_with_len}
 use Rattle.std.proofs.lemmas.Bool.{cases_Bool, cases_eq, cond-false, eqb-false, ne_eqb}
 use Rattle.std.proofs.lemmas.Nat.{mod_below}
@@ -119,13 +120,19 @@ module _ (core : Module) (sound : BreaksNone core) (stallable : is_stallable cor
       (subst (λ ns. Contains ns x) (reads-unless due_name (codes "out_ready")) c))
 
   cold-enable : Cold enable_name
-  cold-enable = signal enable_name (both fed_name open_name) (5, omega arith, refl) (λ x c. two-of fed_name open_name x cold-fed cold-open (subst (λ ns. Contains ns x) (reads-both fed_name open_name) c))
+  cold-enable = signal enable_name (both fed_name open_name) (5, omega arith, refl)
+      (λ x c. two-of fed_name open_name x cold-fed cold-open
+      (subst (λ ns. Contains ns x) (reads-both fed_name open_name) c))
 
   cold-ready : Cold (codes "in_ready")
-  cold-ready = signal (codes "in_ready") (both begin_name open_name) (6, omega arith, refl) (λ x c. two-of begin_name open_name x cold-begin cold-open (subst (λ ns. Contains ns x) (reads-both begin_name open_name) c))
+  cold-ready = signal (codes "in_ready") (both begin_name open_name) (6, omega arith, refl)
+      (λ x c. two-of begin_name open_name x cold-begin cold-open
+      (subst (λ ns. Contains ns x) (reads-both begin_name open_name) c))
 
   cold-valid : Cold (codes "out_valid")
-  cold-valid = signal (codes "out_valid") (both due_name fed_name) (7, omega arith, refl) (λ x c. two-of due_name fed_name x cold-due cold-fed (subst (λ ns. Contains ns x) (reads-both due_name fed_name) c))
+  cold-valid = signal (codes "out_valid") (both due_name fed_name) (7, omega arith, refl)
+      (λ x c. two-of due_name fed_name x cold-due cold-fed
+      (subst (λ ns. Contains ns x) (reads-both due_name fed_name) c))
 
   cold-control : (n : List ℕ) → Contains control_drives n → Cold n
   cold-control n h = in-drives Cold n h cold-begin cold-end cold-due cold-fed cold-open cold-enable cold-ready cold-valid cold-phase cold-wait
@@ -170,7 +177,9 @@ module _ (core : Module) (sound : BreaksNone core) (stallable : is_stallable cor
       (λ t. ⊎_elim (λ p. absurd (cold-pair (name_at k) p k below refl)) (λ l. inr l)
       (Contains-append_cases (flat_map held_pair (inputs_of core names)) (flat_map late_drives (outputs_of core names)) (name_at k) t))
       (Contains-append_cases control_drives (flat_map held_pair (inputs_of core names) ++ flat_map late_drives (outputs_of core names)) (name_at k) b))
-      (Contains-append_cases (core_drives core sound stallable names named counters) (control_drives ++ (flat_map held_pair (inputs_of core names) ++ flat_map late_drives (outputs_of core names))) (name_at k) all)
+      (Contains-append_cases (core_drives core sound stallable names named counters)
+      (control_drives ++ (flat_map held_pair (inputs_of core names)
+      ++ flat_map late_drives (outputs_of core names))) (name_at k) all)
 
   abbrev InLoop : ℕ → List ℕ → Type 0
   InLoop j name = (k : ℕ) × (k < length (first ∷ others)) × (slice_index_or (first ∷ others) k [] ≡ inner_name name)
@@ -196,7 +205,9 @@ module _ (core : Module) (sound : BreaksNone core) (stallable : is_stallable cor
   not-late m l = ⊎_elim
       (λ e. by (is_shared m) refl e)
       (λ c. ⊎_elim
-      (λ on. (output-name core names named c.0 c.1).free (subst (λ x. Contains own_names x) (sym (inner-shared m on) ∙ c.2) (shared-cases (λ n. Contains own_names n) m on (0, omega arith, refl) (1, omega arith, refl))))
+      (λ on. (output-name core names named c.0 c.1).free
+      (subst (λ x. Contains own_names x) (sym (inner-shared m on) ∙ c.2)
+      (shared-cases (λ n. Contains own_names n) m on (0, omega arith, refl) (1, omega arith, refl))))
       (λ out. eqb-false 99 0 refl (sym (inner-letter m out) ∙ ap letter c.2 ∙ output-letter core sound stallable names named counters c.0 c.1))
       (cases_Bool (is_shared m)))
       (in-lates core sound stallable names named counters (inner_name m) l)

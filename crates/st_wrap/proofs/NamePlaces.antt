@@ -1,5 +1,6 @@
 -- Each name of the wrapper that is read or driven is declared before, what must be driven is, and by what may drive it.
-use Rattle.std.proofs.Common.{◌≡◌, ℕ, ◌+◌, ◌-◌, ◌<◌, ◌≤◌, ◌==◌, ⊎_elim, Bool, true, false, if◌then◌else◌, List, [], ◌∷◌, ◌++◌, map, flat_map, length, drop, Contains, codes, Some, refl, sym, ap, subst, ◌∙◌, arith}
+use Rattle.std.proofs.Common.{◌≡◌, ℕ, ◌+◌, ◌-◌, ◌<◌, ◌≤◌, ◌==◌, ⊎_elim, Bool, true, false, if◌then◌else◌, List, [], ◌∷◌, ◌++◌, map, flat_map, length, drop, Contains, codes, Some, refl, sym, ap, subst}
+use Rattle.std.proofs.Common.{◌∙◌, arith}
 use Rattle.std.specs.List.{list_any, range_with_len}
 use Rattle.std.proofs.lemmas.Bool.{cases_Bool, cases_eq, cond-false, ne_eqb}
 use Rattle.std.proofs.lemmas.List.{append_assoc}
@@ -92,8 +93,16 @@ each-flat P f (x ∷ xs) each = each-append P (f x) (flat_map f xs) (each x (hea
 known-in : (base more xs : List Mention) → EachIn (DeclaredIn base) xs → AreKnown (base ++ more) xs
 known-in base more [] e = tt
 known-in base more (Declares d ∷ xs) e = (tt, subst (λ bs. AreKnown bs xs) (sym (append_assoc base more (Declares d ∷ []))) (known-in base (more ++ Declares d ∷ []) xs e))
-known-in base more (Drives c n ∷ xs) e = (still-declared (is_declaration_of n) base more e.0, subst (λ bs. AreKnown bs xs) (sym (append_assoc base more (Drives c n ∷ []))) (known-in base (more ++ Drives c n ∷ []) xs e.1))
-known-in base more (Reads n ∷ xs) e = (still-declared (is_declaration_of n) base more e.0, subst (λ bs. AreKnown bs xs) (sym (append_assoc base more (Reads n ∷ []))) (known-in base (more ++ Reads n ∷ []) xs e.1))
+known-in base more (Drives c n ∷ xs) e = (
+  still-declared (is_declaration_of n) base more e.0,
+  subst (λ bs. AreKnown bs xs) (sym (append_assoc base more (Drives c n ∷ [])))
+      (known-in base (more ++ Drives c n ∷ []) xs e.1),
+)
+known-in base more (Reads n ∷ xs) e = (
+  still-declared (is_declaration_of n) base more e.0,
+  subst (λ bs. AreKnown bs xs) (sym (append_assoc base more (Reads n ∷ [])))
+      (known-in base (more ++ Reads n ∷ []) xs e.1),
+)
 known-in base more (Clocks ∷ xs) e = (tt, subst (λ bs. AreKnown bs xs) (sym (append_assoc base more (Clocks ∷ []))) (known-in base (more ++ Clocks ∷ []) xs e))
 
 -- ---- a fact of each place that drives
@@ -184,7 +193,8 @@ module _ (core : Module) (sound : BreaksNone core) (stallable : is_stallable cor
 
   pub mentions-are : mentions (wrapped core names counters) ≡ ports_part core names ++ (declared_part core names counters ++ (core_part core ++ own_part core names))
   mentions-are = ap (λ xs. ports_part core names ++ xs)
-      (flat_map-append item_mentions (declared_items core counters (inputs_of core names) (outputs_of core names)) (core_items core ++ driven_items counters (inputs_of core names) (outputs_of core names))
+      (flat_map-append item_mentions (declared_items core counters (inputs_of core names) (outputs_of core names))
+      (core_items core ++ driven_items counters (inputs_of core names) (outputs_of core names))
       ∙ ap (λ xs. declared_part core names counters ++ xs)
       (flat_map-append item_mentions (core_items core) (driven_items counters (inputs_of core names) (outputs_of core names))
       ∙ (λ i. items-renamed core.items i ++ driven-are i)))
@@ -211,18 +221,25 @@ module _ (core : Module) (sound : BreaksNone core) (stallable : is_stallable cor
         by true = tt
         by false = (tt, tt)
 
-  in-base : (d : Declared) → Contains (ports_part core names ++ declared_part core names counters) (Declares d) → (n : List ℕ) → d.name ≡ n → list_any (is_declaration_of n) (ports_part core names ++ declared_part core names counters) ≡ true
+  in-base : (d : Declared) → Contains (ports_part core names ++ declared_part core names counters) (Declares d)
+      → (n : List ℕ) → d.name ≡ n
+      → list_any (is_declaration_of n) (ports_part core names ++ declared_part core names counters) ≡ true
   in-base d h n e = seen (is_declaration_of n) (ports_part core names ++ declared_part core names counters) (Declares d) h ((bytes_eq-Decides d.name n).1 e)
 
-  port-base : (port : Port) → Contains (ports_of (inputs_of core names) (outputs_of core names)) port → list_any (is_declaration_of port.name) (ports_part core names ++ declared_part core names counters) ≡ true
+  port-base : (port : Port) → Contains (ports_of (inputs_of core names) (outputs_of core names)) port
+      → list_any (is_declaration_of port.name) (ports_part core names ++ declared_part core names counters) ≡ true
   port-base port h = in-base (port_declared port) (Contains-append_left (ports_part core names) (declared_part core names counters) (Declares (port_declared port))
       (map-in (λ port. Declares (port_declared port)) (ports_of (inputs_of core names) (outputs_of core names)) port h)) port.name refl
 
   item-base : (i : ModItem) → Contains (declared_items core counters (inputs_of core names) (outputs_of core names)) i → (d : Declared) → Contains (item_mentions i) (Declares d)
       → list_any (is_declaration_of d.name) (ports_part core names ++ declared_part core names counters) ≡ true
-  item-base i h d c = in-base d (Contains-append_right (ports_part core names) (declared_part core names counters) (Declares d) (flat-in item_mentions (declared_items core counters (inputs_of core names) (outputs_of core names)) i (Declares d) h c)) d.name refl
+  item-base i h d c = in-base d (Contains-append_right (ports_part core names) (declared_part core names counters)
+      (Declares d) (flat-in item_mentions (declared_items core counters (inputs_of core names)
+      (outputs_of core names)) i (Declares d) h c)) d.name refl
 
-  wire-base : (port : Port) → Contains core.ports port → is_shared port.name ≡ false → list_any (is_declaration_of (inner_name port.name)) (ports_part core names ++ declared_part core names counters) ≡ true
+  wire-base : (port : Port) → Contains core.ports port → is_shared port.name ≡ false
+      → list_any (is_declaration_of (inner_name port.name))
+      (ports_part core names ++ declared_part core names counters) ≡ true
   wire-base port h off = item-base (Wire port.signed port.width (inner_name port.name))
       (Contains-append_left (wires_of core) (control_declared counters ++ (flat_map held_declared (inputs_of core names) ++ flat_map late_declared (outputs_of core names))) _
       (wire-of core counters (inputs_of core names) (outputs_of core names) port h off)) _ (head-in _ [])
@@ -230,7 +247,9 @@ module _ (core : Module) (sound : BreaksNone core) (stallable : is_stallable cor
   abbrev behind_wires : List ModItem
   behind_wires = control_declared counters ++ (flat_map held_declared (inputs_of core names) ++ flat_map late_declared (outputs_of core names))
 
-  control-base : (i : ModItem) → Contains (control_declared counters) i → (d : Declared) → Contains (item_mentions i) (Declares d) → list_any (is_declaration_of d.name) (ports_part core names ++ declared_part core names counters) ≡ true
+  control-base : (i : ModItem) → Contains (control_declared counters) i → (d : Declared)
+      → Contains (item_mentions i) (Declares d)
+      → list_any (is_declaration_of d.name) (ports_part core names ++ declared_part core names counters) ≡ true
   control-base i h d c = item-base i (Contains-append_right (wires_of core) behind_wires i
       (Contains-append_left (control_declared counters) (flat_map held_declared (inputs_of core names) ++ flat_map late_declared (outputs_of core names)) i h)) d c
 
@@ -242,7 +261,9 @@ module _ (core : Module) (sound : BreaksNone core) (stallable : is_stallable cor
       (Contains-append_left (flat_map held_declared (inputs_of core names)) (flat_map late_declared (outputs_of core names)) i
       (flat-in held_declared (inputs_of core names) column i c (head-in i []))))) _ (head-in _ [])
 
-  late-base : (column : Column) → Contains (outputs_of core names) column → (place : ℕ) → place < column.late → list_any (is_declaration_of (late_name column.name (place + 1))) (ports_part core names ++ declared_part core names counters) ≡ true
+  late-base : (column : Column) → Contains (outputs_of core names) column → (place : ℕ) → place < column.late
+      → list_any (is_declaration_of (late_name column.name (place + 1)))
+      (ports_part core names ++ declared_part core names counters) ≡ true
   late-base column c place low =
       let i : ModItem = stage_declared column place in
       let e : 0 + place ≡ place = omega arith in
@@ -287,9 +308,13 @@ module _ (core : Module) (sound : BreaksNone core) (stallable : is_stallable cor
       (r.0.0, f.0, output-unshared r.0.0 f.0 off, ap (λ (x : Column). x.inner) r.2)
 
   inner-base : (column : Column) → Contains (outputs_of core names) column → list_any (is_declaration_of (inner_name column.inner)) (ports_part core names ++ declared_part core names counters) ≡ true
-  inner-base column c = let p = output-of column c in subst (λ n. list_any (is_declaration_of (inner_name n)) (ports_part core names ++ declared_part core names counters) ≡ true) p.3 (wire-base p.0 p.1 p.2)
+  inner-base column c = let p = output-of column c in
+      subst (λ n. list_any (is_declaration_of (inner_name n))
+      (ports_part core names ++ declared_part core names counters) ≡ true) p.3 (wire-base p.0 p.1 p.2)
 
-  stage-base : (column : Column) → Contains (outputs_of core names) column → (k : ℕ) → k ≤ column.late → list_any (is_declaration_of (stage_name column k)) (ports_part core names ++ declared_part core names counters) ≡ true
+  stage-base : (column : Column) → Contains (outputs_of core names) column → (k : ℕ) → k ≤ column.late
+      → list_any (is_declaration_of (stage_name column k))
+      (ports_part core names ++ declared_part core names counters) ≡ true
   stage-base column c k low = ⊎_elim
       (λ z. subst (λ n. list_any (is_declaration_of (stage_name column n)) (ports_part core names ++ declared_part core names counters) ≡ true) (sym z) (inner-base column c))
       (λ some.
@@ -370,7 +395,10 @@ module _ (core : Module) (sound : BreaksNone core) (stallable : is_stallable cor
   pub are-known : AreKnown [] (mentions (wrapped core names counters))
   are-known = subst (λ xs. AreKnown [] xs) (sym mentions-are)
       (known-append [] (ports_part core names) (declared_part core names counters ++ (core_part core ++ own_part core names)) (known-ports [] (ports_of (inputs_of core names) (outputs_of core names)))
-      (known-append (ports_part core names) (declared_part core names counters) (core_part core ++ own_part core names) (known-alone (ports_part core names) (declared_items core counters (inputs_of core names) (outputs_of core names)) declared-alone)
+      (known-append (ports_part core names) (declared_part core names counters)
+      (core_part core ++ own_part core names)
+      (known-alone (ports_part core names)
+      (declared_items core counters (inputs_of core names) (outputs_of core names)) declared-alone)
       (known-append (ports_part core names ++ declared_part core names counters) (core_part core) (own_part core names)
       (known-renamed one-name core_ports (ports_part core names ++ declared_part core names counters) (flat_map item_mentions core.items) ports-renamed
       (known-right [] core_ports (flat_map item_mentions core.items) (known-of (mentions core) [] (mentions core) sound.acyclic.driven)))

@@ -1,5 +1,6 @@
 -- The names that the wrapper declares are identifiers, where the core's are.
-use Rattle.std.proofs.Common.{◌≡◌, ℕ, ◌+◌, ◌^◌, ◌<◌, ◌==◌, nat_le, ⊎_elim, Bool, true, false, not, ◌&&◌, ◌||◌, List, [], ◌∷◌, ◌++◌, map, flat_map, Contains, bytes_eq, codes, decimal, refl, sym, ap, subst, ◌∙◌, arith}
+use Rattle.std.proofs.Common.{◌≡◌, ℕ, ◌+◌, ◌^◌, ◌<◌, ◌==◌, nat_le, ⊎_elim, Bool, true, false, not, ◌&&◌, ◌||◌, List, [], ◌∷◌, ◌++◌, map, flat_map, Contains, bytes_eq, codes, decimal, refl, sym, ap}
+use Rattle.std.proofs.Common.{subst, ◌∙◌, arith}
 use Prim.Native.Char.{code}
 use Rattle.std.specs.List.{list_all, list_any, range_with_len}
 use Rattle.std.proofs.lemmas.Bool.{and_from, and_parts}
@@ -87,7 +88,9 @@ from-declarations m d h =
     by (Reads a) c k = absurd (none-in d k)
     by Clocks c k = absurd (none-in d k)
 
-module _ (core : Module) (sound : BreaksNone core) (stallable : is_stallable core ≡ true) (names : List (List ℕ)) (named : AreColumnNames core names) (counters : Counters) (words : (d : Declared) → Contains (declarations core) d → is_identifier d.name ≡ true) where
+module _ (core : Module) (sound : BreaksNone core) (stallable : is_stallable core ≡ true) (names : List (List ℕ))
+    (named : AreColumnNames core names) (counters : Counters)
+    (words : (d : Declared) → Contains (declarations core) d → is_identifier d.name ≡ true) where
   port-word : (n : List ℕ) → Contains (front_names ++ (in_names core names ++ (flag_names ++ out_names core names))) n → IsWord n
   port-word n c = ⊎_elim (λ a. in-each IsWord front_names (refl, (refl, (refl, tt))) n a)
       (λ c1. ⊎_elim
@@ -104,7 +107,9 @@ module _ (core : Module) (sound : BreaksNone core) (stallable : is_stallable cor
       let w = in-wire r.0 n r.2 in
       let p = from-map port_name core.ports r.0 r.1 in
       let d : Declared = port_declared p.0 in
-      let there : Contains (mentions core) (Declares d) = Contains-append_left (map (λ port. Declares (port_declared port)) core.ports) (flat_map item_mentions core.items) (Declares (port_declared p.0))
+      let there : Contains (mentions core) (Declares d) =
+      Contains-append_left (map (λ port. Declares (port_declared port)) core.ports)
+      (flat_map item_mentions core.items) (Declares (port_declared p.0))
       (map-in (λ port. Declares (port_declared port)) core.ports p.0 p.1) in
       let word : IsWord p.0.name = words (port_declared p.0) (to-declarations core (port_declared p.0) there) in
       subst IsWord (ap inner_name p.2 ∙ sym w.1) (inner-word p.0.name word)
@@ -144,4 +149,5 @@ module _ (core : Module) (sound : BreaksNone core) (stallable : is_stallable cor
       (λ e. ⊎_elim (λ w. wire-word d.name w) (λ own. own-word d.name own) (Contains-append_cases (wires core) (own_declared core names) d.name e))
       (λ k. item-word d.name (subst (λ xs. Contains xs d.name) (append-nil (map inner_name (declared_in core.items))) k))
       (Contains-append_cases (wires core ++ own_declared core names) (map inner_name (declared_in core.items) ++ []) d.name b))
-      (Contains-append_cases (front_names ++ (in_names core names ++ (flag_names ++ out_names core names))) ((wires core ++ own_declared core names) ++ (map inner_name (declared_in core.items) ++ [])) d.name all)
+      (Contains-append_cases (front_names ++ (in_names core names ++ (flag_names ++ out_names core names)))
+      ((wires core ++ own_declared core names) ++ (map inner_name (declared_in core.items) ++ [])) d.name all)

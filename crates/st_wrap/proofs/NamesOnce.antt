@@ -1,5 +1,6 @@
 -- No name is declared or driven twice in the wrapper.
-use Rattle.std.proofs.Common.{◌≡◌, ℕ, zero, suc, ◌+◌, ◌-◌, ◌<◌, ◌≤◌, ⊎_elim, Bool, true, false, not, ◌&&◌, List, [], ◌∷◌, ◌++◌, map, flat_map, length, take, drop, Contains, bytes_eq, refl, sym, ap, subst, ◌∙◌, arith, length-drop}
+use Rattle.std.proofs.Common.{◌≡◌, ℕ, zero, suc, ◌+◌, ◌-◌, ◌<◌, ◌≤◌, ⊎_elim, Bool, true, false, not, ◌&&◌, List, [], ◌∷◌, ◌++◌, map, flat_map, length, take, drop, Contains, bytes_eq, refl, sym, ap}
+use Rattle.std.proofs.Common.{subst, ◌∙◌, arith, length-drop}
 use Rattle.std.specs.List.{AllByRecursion, IsDistinct, list_any, range_with_len, zip}
 use Rattle.std.proofs.lemmas.Bool.{and_parts, false≢true, not-true, or_parts}
 use Rattle.std.proofs.lemmas.List.{map-append, take-append-drop}
@@ -161,10 +162,16 @@ module _ (core : Module) (names : List (List ℕ)) (named : AreColumnNames core 
       subst IsColumnName c.2 (named.each c.0 n c.1)
 
   pub input-name : (column : Column) → Contains (inputs_of core names) column → IsColumnName column.name
-  input-name column c = is-name column.name (Contains-append_left (map column_name (inputs_of core names)) (map column_name (outputs_of core names)) column.name (map-in column_name (inputs_of core names) column c))
+  input-name column c = is-name column.name
+      (Contains-append_left (map column_name (inputs_of core names))
+      (map column_name (outputs_of core names)) column.name
+      (map-in column_name (inputs_of core names) column c))
 
   pub output-name : (column : Column) → Contains (outputs_of core names) column → IsColumnName column.name
-  output-name column c = is-name column.name (Contains-append_right (map column_name (inputs_of core names)) (map column_name (outputs_of core names)) column.name (map-in column_name (outputs_of core names) column c))
+  output-name column c = is-name column.name
+      (Contains-append_right (map column_name (inputs_of core names))
+      (map column_name (outputs_of core names)) column.name
+      (map-in column_name (outputs_of core names) column c))
 
   pub late-small : (column : Column) → Contains (outputs_of core names) column → column.late ≤ 16777216
   late-small column c =

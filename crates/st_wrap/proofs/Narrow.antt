@@ -1,5 +1,6 @@
 -- No width, select or number of the wrapper is at fault.
-use Rattle.std.proofs.Common.{◌≡◌, ℕ, ◌+◌, ◌-◌, ◌*◌, ◌^◌, ◌<◌, ◌≤◌, ◌==◌, nat_le, max, ⊎_elim, Bool, true, false, not, ◌&&◌, if◌then◌else◌, List, [], ◌∷◌, ◌++◌, map, find, length, drop, Contains, codes, Option, Some, None, refl, sym, ap, subst, ◌∙◌, arith, pow_pos}
+use Rattle.std.proofs.Common.{◌≡◌, ℕ, ◌+◌, ◌-◌, ◌*◌, ◌^◌, ◌<◌, ◌≤◌, ◌==◌, nat_le, max, ⊎_elim, Bool, true, false, not, ◌&&◌, if◌then◌else◌, List, [], ◌∷◌, ◌++◌, map, find, length, drop, Contains}
+use Rattle.std.proofs.Common.{codes, Option, Some, None, refl, sym, ap, subst, ◌∙◌, arith, pow_pos}
 use Rattle.std.specs.Prelude.{option_map}
 use Rattle.std.specs.List.{range_with_len}
 use Rattle.std.proofs.lemmas.Bool.{and_parts, cases_eq, cond-false, leb-true, ne_eqb}
@@ -104,7 +105,8 @@ record AreWide (nets : List ℕ → Net) (counters : Counters) : Type 0 where
 abbrev IsSoundIn : (List ℕ → Net) → ModItem → Type 0
 IsSoundIn nets i = is_sound_item nets i ≡ true
 
-module _ (core : Module) (sound : BreaksNone core) (stallable : is_stallable core ≡ true) (names : List (List ℕ)) (named : AreColumnNames core names) (counters : Counters) (counts : CountFor core counters)
+module _ (core : Module) (sound : BreaksNone core) (stallable : is_stallable core ≡ true) (names : List (List ℕ))
+    (named : AreColumnNames core names) (counters : Counters) (counts : CountFor core counters)
     (large : IsAcyclic (wrapped core names counters)) where
   abbrev nets : List ℕ → Net
   nets = nets_of (wrapped core names counters)
@@ -262,11 +264,16 @@ module _ (core : Module) (sound : BreaksNone core) (stallable : is_stallable cor
           is-fine 1 (is_last counters.phase) (fine-Binary nets Equal (Name phase_name) (number counters.phase.width counters.phase.most) counters.phase.width counters.phase.width 1 refl (omega arith)
               (fine-Name nets phase_name counters.phase.width wide.phase phase-low) (fine-number nets counters.phase.width counters.phase.most phase-some phase-low counts.phase_room.room)),
           (
-            is-fine 1 is_due_now (fine-Binary nets Both (Name end_name) (is_zero wait_name) 1 1 1 refl (omega arith) (one end_name wide.end) (fine-zero nets wait_name counters.wait.width wide.wait wait-low)),
+            is-fine 1 is_due_now (fine-Binary nets Both (Name end_name) (is_zero wait_name) 1 1 1 refl (omega arith)
+                (one end_name wide.end) (fine-zero nets wait_name counters.wait.width wide.wait wait-low)),
             (
-              is-fine 1 (unless begin_name (codes "in_valid")) (fine-Binary nets Either (is_zero begin_name) (Name (codes "in_valid")) 1 1 1 refl (omega arith) (fine-zero nets begin_name 1 wide.begin (omega arith)) (one (codes "in_valid") w-in)),
+              is-fine 1 (unless begin_name (codes "in_valid"))
+                  (fine-Binary nets Either (is_zero begin_name) (Name (codes "in_valid")) 1 1 1 refl (omega arith)
+                  (fine-zero nets begin_name 1 wide.begin (omega arith)) (one (codes "in_valid") w-in)),
               (
-                is-fine 1 (unless due_name (codes "out_ready")) (fine-Binary nets Either (is_zero due_name) (Name (codes "out_ready")) 1 1 1 refl (omega arith) (fine-zero nets due_name 1 wide.due (omega arith)) (one (codes "out_ready") w-out)),
+                is-fine 1 (unless due_name (codes "out_ready"))
+                    (fine-Binary nets Either (is_zero due_name) (Name (codes "out_ready")) 1 1 1 refl (omega arith)
+                    (fine-zero nets due_name 1 wide.due (omega arith)) (one (codes "out_ready") w-out)),
                 (
                   is-fine 1 (both fed_name open_name) (fine-both nets fed_name open_name wide.fed wide.opened),
                   (
@@ -274,9 +281,14 @@ module _ (core : Module) (sound : BreaksNone core) (stallable : is_stallable cor
                     (
                       is-fine 1 (both due_name fed_name) (fine-both nets due_name fed_name wide.due wide.fed),
                       (
-                        (λ i. is-number counters.phase.width 0 phase-some phase-low (pow_pos counters.phase.width) i && is-fine 1 (Name enable_name) (one enable_name wide.enable) i && is-fine counters.phase.width (next_phase counters.phase) fine-phase i),
+                        (λ i. is-number counters.phase.width 0 phase-some phase-low (pow_pos counters.phase.width) i
+                            && is-fine 1 (Name enable_name) (one enable_name wide.enable) i
+                            && is-fine counters.phase.width (next_phase counters.phase) fine-phase i),
                         (
-                          (λ i. is-number counters.wait.width counters.wait.most wait-some wait-low counts.wait_room.room i && is-fine 1 (moving end_name) (fine-both nets enable_name end_name wide.enable wide.end) i && is-fine counters.wait.width (next_wait counters.wait) fine-wait i),
+                          (λ i. is-number counters.wait.width counters.wait.most wait-some wait-low
+                              counts.wait_room.room i && is-fine 1 (moving end_name)
+                              (fine-both nets enable_name end_name wide.enable wide.end) i
+                              && is-fine counters.wait.width (next_wait counters.wait) fine-wait i),
                           tt,
                         ),
                       ),
@@ -299,13 +311,19 @@ module _ (core : Module) (sound : BreaksNone core) (stallable : is_stallable cor
       let p = width-parts column.width (input-width column c) in
       let w : ℕ = column.width in
       let u : Fine column.width (Name column.name) = fine-Name nets column.name column.width
-      (d-net _ (in-port (wrapped core names counters) large.driven large.once (input_port (column_port column)) (input-port core counters (inputs_of core names) (outputs_of core names) column c))) p.1 in
+      (d-net _ (in-port (wrapped core names counters) large.driven large.once (input_port (column_port column))
+      (input-port core counters (inputs_of core names) (outputs_of core names) column c))) p.1 in
       let h : Fine column.width (Name (held_name column.name)) = fine-Name nets (held_name column.name) column.width
       (d-net _ (reg-declared (wrapped core names counters) large.driven large.once column.signed column.width (held_name column.name)
       ((declared-there core counters (inputs_of core names) (outputs_of core names)).input column c _ (head-in _ [])))) p.1 in (
         is-fine column.width (Choose (Name begin_name) (Name column.name) (Name (held_name column.name)))
             (fine-Choose nets (Name begin_name) (Name column.name) (Name (held_name column.name)) 1 column.width (one begin_name wide.begin) u h),
-        ((λ i. is-number column.width 0 p.0 p.1 (pow_pos column.width) i && is-fine 1 (moving begin_name) (fine-both nets enable_name begin_name wide.enable wide.begin) i && is-fine column.width (Name column.name) u i), tt),
+        (
+          (λ i. is-number column.width 0 p.0 p.1 (pow_pos column.width) i
+              && is-fine 1 (moving begin_name) (fine-both nets enable_name begin_name wide.enable wide.begin) i
+              && is-fine column.width (Name column.name) u i),
+          tt,
+        ),
       )
 
   stage-fine : (column : Column) → Contains (outputs_of core names) column → (k : ℕ) → k ≤ column.late → Fine column.width (Name (stage_name column k))

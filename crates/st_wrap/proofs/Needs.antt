@@ -1,5 +1,6 @@
 -- Each wire, register and output of the wrapper has a driver.
-use Rattle.std.proofs.Common.{◌≡◌, ℕ, ◌+◌, ◌≤◌, ⊎_elim, Bool, true, false, not, ◌&&◌, ◌||◌, if◌then◌else◌, List, [], ◌∷◌, ◌++◌, map, flat_map, length, Contains, bytes_eq, codes, Some, None, refl, sym, ap, subst, ◌∙◌, arith}
+use Rattle.std.proofs.Common.{◌≡◌, ℕ, ◌+◌, ◌≤◌, ⊎_elim, Bool, true, false, not, ◌&&◌, ◌||◌, if◌then◌else◌, List, [], ◌∷◌, ◌++◌, map, flat_map, length, Contains, bytes_eq, codes, Some, None, refl, sym}
+use Rattle.std.proofs.Common.{ap, subst, ◌∙◌, arith}
 use Rattle.std.specs.List.{list_any, range_with_len}
 use Rattle.std.proofs.lemmas.Bool.{and_parts, cases_Bool, false≢true, not-false}
 use Rattle.std.proofs.lemmas.List.{append-nil}
@@ -13,7 +14,8 @@ use Rattle.vl_ast.specs.Conditions.{BreaksNone, is_driver_of, needs_driver, undr
 use Rattle.vl_ast.specs.Control.{is_clock_or_reset, is_control_input, is_number_input, is_stallable}
 use Rattle.vl_ast.specs.Driven.{stimulus_ports}
 use Rattle.vl_ast.specs.Header.{bit_input, input_port}
-use Rattle.vl_ast.specs.Nets.{Declared, InputPort, OutputPort, PlainWire, Register, Mention, Declares, Drives, Reads, Clocks, condition_names, names_read, declaration_of, item_mentions, mentions, port_declared}
+use Rattle.vl_ast.specs.Nets.{Declared, InputPort, OutputPort, PlainWire, Register, Mention, Declares, Drives, Reads, Clocks, condition_names, names_read, declaration_of, item_mentions, mentions}
+use Rattle.vl_ast.specs.Nets.{port_declared}
 use Rattle.vl_ast.proofs.Facts.{has-driver, in-port}
 use Rattle.math_list.proofs.Elements.{cons-cases, flat-in, from-flat, from-map, head-in, map-in, none-in, tail-in}
 use Rattle.st_wrap.specs.declared.columns.Column.{Column}
@@ -61,7 +63,8 @@ declares-needs (Assign name value) d h =
 declares-needs (Always name first condition value) d h =
     let ns = condition_names condition ++ names_read value in
     ⊎_elim (λ e. absurd (cc e))
-    (λ s. ⊎_elim (λ e. absurd (cc e)) (λ t. absurd (no-reads d (condition_names condition ++ names_read value) t)) (cons-cases (Drives true name) (Declares d) (map Reads (condition_names condition ++ names_read value)) s))
+    (λ s. ⊎_elim (λ e. absurd (cc e)) (λ t. absurd (no-reads d (condition_names condition ++ names_read value) t))
+    (cons-cases (Drives true name) (Declares d) (map Reads (condition_names condition ++ names_read value)) s))
     (cons-cases Clocks (Declares d) (Drives true name ∷ map Reads (condition_names condition ++ names_read value)) h)
 
 module _ (core : Module) (sound : BreaksNone core) (stallable : is_stallable core ≡ true) (names : List (List ℕ)) (named : AreColumnNames core names) (counters : Counters) where
@@ -88,7 +91,9 @@ module _ (core : Module) (sound : BreaksNone core) (stallable : is_stallable cor
       (λ a. let s = from-map (λ port. Declares (port_declared port)) core.ports (Drives r.0 d.name) a in absurd (cc (s.2)))
       (λ b. b)
       (Contains-append_cases (map (λ port. Declares (port_declared port)) core.ports) (flat_map item_mentions core.items) (Drives r.0 d.name) r.1) in
-      let renamed : Contains (map renamed_mention (flat_map item_mentions core.items)) (Drives r.0 (inner_name d.name)) = map-in renamed_mention (flat_map item_mentions core.items) (Drives r.0 d.name) inside in
+      let renamed : Contains (map renamed_mention (flat_map item_mentions core.items))
+      (Drives r.0 (inner_name d.name)) =
+      map-in renamed_mention (flat_map item_mentions core.items) (Drives r.0 d.name) inside in
       let x : Mention = Drives r.0 (inner_name d.name) in
       has-by r.0 (inner_name d.name) (subst (λ xs. Contains xs (Drives r.0 (inner_name d.name))) (sym (mentions-are core sound stallable names named counters))
       (Contains-append_right (ports_part core names) (declared_part core names counters ++ (core_part core ++ own_part core names)) x
@@ -103,9 +108,12 @@ module _ (core : Module) (sound : BreaksNone core) (stallable : is_stallable cor
       ((driven-there core counters (inputs_of core names) (outputs_of core names)).input column c _ (1, omega arith, refl)) (second-in _ _ _))
 
   late-has : (column : Column) → Contains (outputs_of core names) column → (place : ℕ) → Contains (range_with_len 0 column.late) place → Has (late_name column.name (place + 1))
-  late-has column c place h = has-by true (late_name column.name (place + 1)) (item-mention core sound stallable names named counters (stage_driven column place) (Drives true (late_name column.name (place + 1)))
+  late-has column c place h = has-by true (late_name column.name (place + 1))
+      (item-mention core sound stallable names named counters (stage_driven column place)
+      (Drives true (late_name column.name (place + 1)))
       ((driven-there core counters (inputs_of core names) (outputs_of core names)).output column c (stage_driven column place)
-      (Contains-append_left (map (stage_driven column) (range_with_len 0 column.late)) _ (stage_driven column place) (map-in (stage_driven column) (range_with_len 0 column.late) place h))) (second-in _ _ _))
+      (Contains-append_left (map (stage_driven column) (range_with_len 0 column.late)) _ (stage_driven column place)
+      (map-in (stage_driven column) (range_with_len 0 column.late) place h))) (second-in _ _ _))
 
   output-has : (column : Column) → Contains (outputs_of core names) column → Has column.name
   output-has column c = has-by false column.name (item-mention core sound stallable names named counters _ (Drives false column.name)
@@ -114,23 +122,27 @@ module _ (core : Module) (sound : BreaksNone core) (stallable : is_stallable cor
 
   -- a wire of a port of the core
   wire-has : (port : Port) → Contains core.ports port → is_shared port.name ≡ false → Has (inner_name port.name)
-  wire-has port h off = ⊎_elim (λ on. of-input on) (λ out. core-has (port_declared port) (in-port core sound.acyclic.driven sound.acyclic.once port h) (ap (λ (b : Bool). needs_driver (if b then InputPort else OutputPort)) out)) (cases_Bool port.input) where
-    or-other : (a b : Bool) → (a || b) ≡ true → b ≡ false → a ≡ true
-    or-other true b e f = refl
-    or-other false b e f = absurd (cc (e, f))
+  wire-has port h off = ⊎_elim (λ on. of-input on)
+      (λ out. core-has (port_declared port) (in-port core sound.acyclic.driven sound.acyclic.once port h)
+      (ap (λ (b : Bool). needs_driver (if b then InputPort else OutputPort)) out)) (cases_Bool port.input) where
+        or-other : (a b : Bool) → (a || b) ≡ true → b ≡ false → a ≡ true
+        or-other true b e f = refl
+        or-other false b e f = absurd (cc (e, f))
 
-    of-input : port.input ≡ true → Has (inner_name port.name)
-    of-input on = ⊎_elim
-        (λ t.
-        let enough : length (stimulus_ports core) ≤ length names = (let n = named.count in omega (arith, n)) in
-        let pr = paired (stimulus_ports core) names port enough (to-filter (is_number_input (is_stallable core)) core.ports port h t) in
-        input-has (input_column (port, pr.partner)) (map-in input_column (named_inputs core names) (port, pr.partner) (got-in (named_inputs core names) pr.place (port, pr.partner) pr.at)))
-        (λ f.
-        let ctrl : is_control_input (is_stallable core) port ≡ true =
-        not-false (is_control_input (is_stallable core) port) (sym (ap (λ b. b && not (is_control_input (is_stallable core) port)) on) ∙ f) in
-        let e = and_parts (is_stallable core) (bytes_eq port.name (codes "clk_enable")) (or-other (is_stallable core && bytes_eq port.name (codes "clk_enable")) (is_clock_or_reset port) ctrl off) in
-        subst (λ n. Has (inner_name n)) (sym ((bytes_eq-Decides port.name (codes "clk_enable")).0 e.1)) enable-has)
-        (cases_Bool (is_number_input (is_stallable core) port))
+        of-input : port.input ≡ true → Has (inner_name port.name)
+        of-input on = ⊎_elim
+            (λ t.
+            let enough : length (stimulus_ports core) ≤ length names = (let n = named.count in omega (arith, n)) in
+            let pr = paired (stimulus_ports core) names port enough (to-filter (is_number_input (is_stallable core)) core.ports port h t) in
+            input-has (input_column (port, pr.partner)) (map-in input_column (named_inputs core names) (port, pr.partner) (got-in (named_inputs core names) pr.place (port, pr.partner) pr.at)))
+            (λ f.
+            let ctrl : is_control_input (is_stallable core) port ≡ true =
+            not-false (is_control_input (is_stallable core) port) (sym (ap (λ b. b && not (is_control_input (is_stallable core) port)) on) ∙ f) in
+            let e = and_parts (is_stallable core) (bytes_eq port.name (codes "clk_enable"))
+            (or-other (is_stallable core && bytes_eq port.name (codes "clk_enable"))
+            (is_clock_or_reset port) ctrl off) in
+            subst (λ n. Has (inner_name n)) (sym ((bytes_eq-Decides port.name (codes "clk_enable")).0 e.1)) enable-has)
+            (cases_Bool (is_number_input (is_stallable core) port))
 
   some-same : {d e : Declared} → Some d ≡ Some e → d ≡ e
   some-same {d} {e} p = cc p
@@ -171,7 +183,8 @@ module _ (core : Module) (sound : BreaksNone core) (stallable : is_stallable cor
         (λ c1. ⊎_elim
         (λ a. let r = from-map column_name (inputs_of core names) d.name a in
         absurd (no-need d h needs (input_port (column_port r.0)) (input-port core counters (inputs_of core names) (outputs_of core names) r.0 r.1) refl r.2))
-        (λ c2. ⊎_elim (λ a. of-flags a) (λ b. let r = from-map column_name (outputs_of core names) d.name b in subst Has r.2 (output-has r.0 r.1)) (Contains-append_cases flag_names (out_names core names) d.name c2))
+        (λ c2. ⊎_elim (λ a. of-flags a) (λ b. let r = from-map column_name (outputs_of core names) d.name b in
+        subst Has r.2 (output-has r.0 r.1)) (Contains-append_cases flag_names (out_names core names) d.name c2))
         (Contains-append_cases (in_names core names) (flag_names ++ out_names core names) d.name c1))
         (Contains-append_cases front_names (in_names core names ++ (flag_names ++ out_names core names)) d.name c)
 
@@ -220,7 +233,8 @@ module _ (core : Module) (sound : BreaksNone core) (stallable : is_stallable cor
         (λ e. ⊎_elim (λ w. of-wires w) (λ own. of-own own) (Contains-append_cases (wires core) (own_declared core names) d.name e))
         (λ k. of-core (subst (λ xs. Contains xs d.name) (append-nil (map inner_name (declared_in core.items))) k))
         (Contains-append_cases (wires core ++ own_declared core names) (map inner_name (declared_in core.items) ++ []) d.name b))
-        (Contains-append_cases (front_names ++ (in_names core names ++ (flag_names ++ out_names core names))) ((wires core ++ own_declared core names) ++ (map inner_name (declared_in core.items) ++ [])) d.name all)
+        (Contains-append_cases (front_names ++ (in_names core names ++ (flag_names ++ out_names core names)))
+        ((wires core ++ own_declared core names) ++ (map inner_name (declared_in core.items) ++ [])) d.name all)
 
   pub driven : undriven (wrapped core names counters) ≡ None
   driven = undriven-none (wrapped core names counters) (λ d h needs. has-one d h needs) (are-known core sound stallable names named counters)

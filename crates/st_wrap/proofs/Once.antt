@@ -27,7 +27,8 @@ use Rattle.st_wrap.specs.inner.Wrapper.{declared_items, driven_items, inputs_of,
 use Rattle.st_wrap.proofs.Apart.{Apart, apart-append, apart-between, apart-flat, apart-left, apart-map, apart-right, declared-once, declared_names}
 use Rattle.st_wrap.proofs.OneRun.{clk-port}
 use Rattle.st_wrap.proofs.Letters.{column-letter, held-same, inner-letter, inner-same, late-same, letter, off, shared-cases}
-use Rattle.st_wrap.proofs.NamesOnce.{apart-range, by-test, column_name, columns-apart, declared-renamed, declared_in, flat-empty, in-each, in-range, input-name, items-renamed, late-small, map-twice, names-append, names-flat, names-map, output-name}
+use Rattle.st_wrap.proofs.NamesOnce.{apart-range, by-test, column_name, columns-apart, declared-renamed, declared_in, flat-empty, in-each, in-range, input-name, items-renamed, late-small, map-twice}
+use Rattle.st_wrap.proofs.NamesOnce.{names-append, names-flat, names-map, output-name}
 use Rattle.st_wrap.proofs.NameReads.{control-mentions, held-mentions, shown-mentions, stage-mentions}
 
 -- ---- parts, by names
@@ -189,10 +190,15 @@ module _ (core : Module) (sound : BreaksNone core) (stallable : is_stallable cor
       (apart-append (in_names core names) (flag_names ++ out_names core names) (apart-left (in_names core names) (out_names core names) both)
       (apart-append flag_names (out_names core names) (by-test flag_names refl) (apart-right (in_names core names) (out_names core names) both)
       (λ n f c. (of-columns n (Contains-append_right (in_names core names) (out_names core names) n c)).free (in-own n (inr f))))
-      (λ n a b. ⊎_elim (λ f. (of-columns n (Contains-append_left (in_names core names) (out_names core names) n a)).free (in-own n (inr f))) (λ c. apart-between (in_names core names) (out_names core names) n both a c) (Contains-append_cases flag_names (out_names core names) n b)))
+      (λ n a b. ⊎_elim (λ f. (of-columns n
+      (Contains-append_left (in_names core names) (out_names core names) n a)).free (in-own n (inr f)))
+      (λ c. apart-between (in_names core names) (out_names core names) n both a c)
+      (Contains-append_cases flag_names (out_names core names) n b)))
       (λ n f h. ⊎_elim
       (λ a. (of-columns n (Contains-append_left (in_names core names) (out_names core names) n a)).free (in-own n (inl f)))
-      (λ b. ⊎_elim (λ g. flags-differ n f g) (λ c. (of-columns n (Contains-append_right (in_names core names) (out_names core names) n c)).free (in-own n (inl f))) (Contains-append_cases flag_names (out_names core names) n b))
+      (λ b. ⊎_elim (λ g. flags-differ n f g)
+      (λ c. (of-columns n (Contains-append_right (in_names core names) (out_names core names) n c)).free
+      (in-own n (inl f))) (Contains-append_cases flag_names (out_names core names) n b))
       (Contains-append_cases (in_names core names) (flag_names ++ out_names core names) n h))
     where
       flags-differ : (n : List ℕ) → Contains front_names n → Contains flag_names n → ⊥
@@ -204,7 +210,10 @@ module _ (core : Module) (sound : BreaksNone core) (stallable : is_stallable cor
       (λ f. own-letter n (inl f))
       (λ h1. ⊎_elim
       (λ a. column-letter n (of-columns n (Contains-append_left (in_names core names) (out_names core names) n a)))
-      (λ h2. ⊎_elim (λ g. own-letter n (inr g)) (λ c. column-letter n (of-columns n (Contains-append_right (in_names core names) (out_names core names) n c))) (Contains-append_cases flag_names (out_names core names) n h2))
+      (λ h2. ⊎_elim (λ g. own-letter n (inr g))
+      (λ c. column-letter n (of-columns n
+      (Contains-append_right (in_names core names) (out_names core names) n c)))
+      (Contains-append_cases flag_names (out_names core names) n h2))
       (Contains-append_cases (in_names core names) (flag_names ++ out_names core names) n h1))
       (Contains-append_cases front_names (in_names core names ++ (flag_names ++ out_names core names)) n h)
     where
@@ -244,7 +253,10 @@ module _ (core : Module) (sound : BreaksNone core) (stallable : is_stallable cor
   own-other : (n : List ℕ) → Contains (own_declared core names) n → (letter n ≢ 0) × (letter n ≢ 99)
   own-other n h = ⊎_elim
       (λ c. in-control (λ n. (letter n ≢ 0) × (letter n ≢ 99)) n c
-      (off begin_name 0 refl, off begin_name 99 refl) (off end_name 0 refl, off end_name 99 refl) (off due_name 0 refl, off due_name 99 refl) (off fed_name 0 refl, off fed_name 99 refl) (off open_name 0 refl, off open_name 99 refl) (off phase_name 0 refl, off phase_name 99 refl) (off wait_name 0 refl, off wait_name 99 refl))
+      (off begin_name 0 refl, off begin_name 99 refl) (off end_name 0 refl, off end_name 99 refl)
+      (off due_name 0 refl, off due_name 99 refl) (off fed_name 0 refl, off fed_name 99 refl)
+      (off open_name 0 refl, off open_name 99 refl) (off phase_name 0 refl, off phase_name 99 refl)
+      (off wait_name 0 refl, off wait_name 99 refl))
       (λ o. ⊎_elim
       (λ a. let l = in-held (inputs_of core names) n a in ((λ e. eqb-false 104 0 refl (sym l ∙ e)), (λ e. eqb-false 104 99 refl (sym l ∙ e))))
       (λ b. let l = in-lates (outputs_of core names) n b in ((λ e. eqb-false 108 0 refl (sym l ∙ e)), (λ e. eqb-false 108 99 refl (sym l ∙ e))))
@@ -253,7 +265,10 @@ module _ (core : Module) (sound : BreaksNone core) (stallable : is_stallable cor
 
   control-letter : (n : List ℕ) → Contains control_names n → (letter n ≢ 104) × (letter n ≢ 108)
   control-letter n c = in-control (λ n. (letter n ≢ 104) × (letter n ≢ 108)) n c
-      (off begin_name 104 refl, off begin_name 108 refl) (off end_name 104 refl, off end_name 108 refl) (off due_name 104 refl, off due_name 108 refl) (off fed_name 104 refl, off fed_name 108 refl) (off open_name 104 refl, off open_name 108 refl) (off phase_name 104 refl, off phase_name 108 refl) (off wait_name 104 refl, off wait_name 108 refl)
+      (off begin_name 104 refl, off begin_name 108 refl) (off end_name 104 refl, off end_name 108 refl)
+      (off due_name 104 refl, off due_name 108 refl) (off fed_name 104 refl, off fed_name 108 refl)
+      (off open_name 104 refl, off open_name 108 refl) (off phase_name 104 refl, off phase_name 108 refl)
+      (off wait_name 104 refl, off wait_name 108 refl)
 
   own-apart : Apart (own_declared core names)
   own-apart =
@@ -278,15 +293,20 @@ module _ (core : Module) (sound : BreaksNone core) (stallable : is_stallable cor
       late-none : (column : Column) → declared_in (late_driven column) ≡ []
       late-none column =
           names-append declared_names (map (stage_driven column) (range_with_len 0 column.late)) (Assign column.name (Name (stage_name column column.late)) ∷ [])
-          ∙ (λ i. (names-map declared_names (stage_driven column) (λ place. []) (range_with_len 0 column.late) (λ place. ap (flat_map declared_names) (stage-mentions column place)) ∙ flat-empty (range_with_len 0 column.late)) i
+          ∙ (λ i. (names-map declared_names (stage_driven column) (λ place. []) (range_with_len 0 column.late)
+          (λ place. ap (flat_map declared_names) (stage-mentions column place))
+          ∙ flat-empty (range_with_len 0 column.late)) i
           ++ (ap (λ ms. flat_map declared_names (ms ++ [])) (shown-mentions column)) i)
 
   pub declared-list : flat_map declared_names (mentions (wrapped core names counters)) ≡ all_declared
   declared-list =
       let ports = ports_of (inputs_of core names) (outputs_of core names) in
-      flat_map-append declared_names (map (λ port. Declares (port_declared port)) (ports_of (inputs_of core names) (outputs_of core names))) (flat_map item_mentions (items_of core counters (inputs_of core names) (outputs_of core names)))
+      flat_map-append declared_names (map (λ port. Declares (port_declared port))
+      (ports_of (inputs_of core names) (outputs_of core names)))
+      (flat_map item_mentions (items_of core counters (inputs_of core names) (outputs_of core names)))
       ∙ (λ i. (port-mentions (ports_of (inputs_of core names) (outputs_of core names)) ∙ ports-are) i
-      ++ names-append declared_names (declared_items core counters (inputs_of core names) (outputs_of core names)) (core_items core ++ driven_items counters (inputs_of core names) (outputs_of core names)) i)
+      ++ names-append declared_names (declared_items core counters (inputs_of core names) (outputs_of core names))
+      (core_items core ++ driven_items counters (inputs_of core names) (outputs_of core names)) i)
       ∙ (λ i. (front_names ++ (in_names core names ++ (flag_names ++ out_names core names)))
       ++ (d-part i ++ names-append declared_names (core_items core) (driven_items counters (inputs_of core names) (outputs_of core names)) i))
       ∙ (λ i. (front_names ++ (in_names core names ++ (flag_names ++ out_names core names)))

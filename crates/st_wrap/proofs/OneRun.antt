@@ -1,6 +1,7 @@
 -- Two runs of a module that are reset, and have the same inputs from then on, show the same from then on. Nothing
 -- reads `clk`, so its bits don't count.
-use Rattle.std.proofs.Common.{◌≡◌, ◌≢◌, ◌<◌, ◌≤◌, ◌+◌, ◌%◌, ◌^◌, ⊎_elim, ℕ, zero, suc, max, nat_le, Bool, true, false, not, if◌then◌else◌, ◌==◌, List, ◌++◌, Contains, bytes_eq, codes, Option, Some, None, refl, sym, ap, subst, ◌∙◌, arith}
+use Rattle.std.proofs.Common.{◌≡◌, ◌≢◌, ◌<◌, ◌≤◌, ◌+◌, ◌%◌, ◌^◌, ⊎_elim, ℕ, zero, suc, max, nat_le, Bool, true, false, not, if◌then◌else◌, ◌==◌, List, ◌++◌, Contains, bytes_eq, codes, Option, Some}
+use Rattle.std.proofs.Common.{None, refl, sym, ap, subst, ◌∙◌, arith}
 use Rattle.std.specs.List.{list_any}
 use Rattle.std.proofs.lemmas.Bool.{cases_Bool, cond-true, cond-false, eq-eqb, false≢true, not-false, or_parts}
 use Rattle.std.proofs.lemmas.List.Elements.{Contains-append_left, Contains-append_right}
@@ -20,7 +21,8 @@ use Rattle.vl_ast.specs.Runs.{Row, Rows, Runs, next_bits, takes_value}
 use Rattle.vl_ast.specs.Value.{assigned, assigned_number}
 use Rattle.vl_ast.proofs.Agree.{values-agree}
 use Rattle.vl_ast.proofs.Alone.{reset-port}
-use Rattle.vl_ast.proofs.Facts.{ByAlways, Driver, always-drives, assign-drives, driven-declared, driver-of, has-driver, in-port, is-declared, may-drive, mention-listed, read-declared, reads-of-always, reads-of-assign, reg-declared}
+use Rattle.vl_ast.proofs.Facts.{ByAlways, Driver, always-drives, assign-drives, driven-declared, driver-of, has-driver, in-port, is-declared, may-drive, mention-listed, read-declared, reads-of-always}
+use Rattle.vl_ast.proofs.Facts.{reads-of-assign, reg-declared}
 use Rattle.vl_ast.proofs.GatesSound.{neither}
 use Rattle.vl_ast.proofs.Layers.{value_by_layer}
 use Rattle.vl_ast.proofs.StallFree.{bit-port}

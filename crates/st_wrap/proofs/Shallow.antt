@@ -44,7 +44,9 @@ fillings : (parts : List Known) → map is_filled (map renamed (map (λ p. p.0) 
 fillings [] = refl
 fillings (part ∷ parts) = (λ i. part.1.filled i ∷ fillings parts i)
 
-depth-layer : (y : Expr-F Known) → depth_step (map-Expr Expr ℕ depth (relabelled (map-Expr Expr Expr renamed (map-Expr Known Expr (λ p. p.0) y)))) ≡ depth_step (map-Expr Expr ℕ depth (map-Expr Known Expr (λ p. p.0) y))
+depth-layer : (y : Expr-F Known) → depth_step
+    (map-Expr Expr ℕ depth (relabelled (map-Expr Expr Expr renamed (map-Expr Known Expr (λ p. p.0) y))))
+    ≡ depth_step (map-Expr Expr ℕ depth (map-Expr Known Expr (λ p. p.0) y))
 depth-layer (Expr-F.Name name) = refl
 depth-layer (Expr-F.Bit name place) = refl
 depth-layer (Expr-F.Part name high low) = refl
@@ -58,7 +60,9 @@ depth-layer (Expr-F.Binary op left right) = (λ i. max (left.1.deep i) (right.1.
 depth-layer (Expr-F.Shift op part amount) = ap (λ n. n + 1) part.1.deep
 depth-layer (Expr-F.Choose test chosen other) = (λ i. max (test.1.deep i) (max (chosen.1.deep i) (other.1.deep i)) + 1)
 
-filled-layer : (y : Expr-F Known) → is_filled_step (map-Expr Expr Bool is_filled (relabelled (map-Expr Expr Expr renamed (map-Expr Known Expr (λ p. p.0) y)))) ≡ is_filled_step (map-Expr Expr Bool is_filled (map-Expr Known Expr (λ p. p.0) y))
+filled-layer : (y : Expr-F Known) → is_filled_step
+    (map-Expr Expr Bool is_filled (relabelled (map-Expr Expr Expr renamed (map-Expr Known Expr (λ p. p.0) y))))
+    ≡ is_filled_step (map-Expr Expr Bool is_filled (map-Expr Known Expr (λ p. p.0) y))
 filled-layer (Expr-F.Name name) = refl
 filled-layer (Expr-F.Bit name place) = refl
 filled-layer (Expr-F.Part name high low) = refl
@@ -147,19 +151,28 @@ control-exprs : (counters : Counters) → HaveExprs (control_driven counters)
 control-exprs counters =
     let w = counters.phase.width in
     let v = counters.wait.width in
-    let up = choose-shallow (Name end_name) (number counters.phase.width 0) (Binary Add (Name phase_name) (number counters.phase.width 1)) 0 0 1 2 refl (name-shallow end_name) (literal-shallow (plain counters.phase.width 0))
+    let up = choose-shallow (Name end_name) (number counters.phase.width 0)
+    (Binary Add (Name phase_name) (number counters.phase.width 1)) 0 0 1 2 refl (name-shallow end_name)
+    (literal-shallow (plain counters.phase.width 0))
     (binary-shallow Add (Name phase_name) (number counters.phase.width 1) 0 0 1 refl (name-shallow phase_name) (literal-shallow (plain counters.phase.width 1))) in
     let down = choose-shallow (Name wait_name) (Binary Subtract (Name wait_name) (number counters.wait.width 1)) (number counters.wait.width 0) 0 1 0 2 refl (name-shallow wait_name)
-    (binary-shallow Subtract (Name wait_name) (number counters.wait.width 1) 0 0 1 refl (name-shallow wait_name) (literal-shallow (plain counters.wait.width 1))) (literal-shallow (plain counters.wait.width 0)) in (
+    (binary-shallow Subtract (Name wait_name) (number counters.wait.width 1) 0 0 1 refl (name-shallow wait_name)
+    (literal-shallow (plain counters.wait.width 1))) (literal-shallow (plain counters.wait.width 0)) in (
       expr-of 1 (is_zero phase_name) (omega arith) (zero-shallow phase_name),
       (
-        expr-of 1 (is_last counters.phase) (omega arith) (binary-shallow Equal (Name phase_name) (number counters.phase.width counters.phase.most) 0 0 1 refl (name-shallow phase_name) (literal-shallow (plain counters.phase.width counters.phase.most))),
+        expr-of 1 (is_last counters.phase) (omega arith)
+            (binary-shallow Equal (Name phase_name) (number counters.phase.width counters.phase.most) 0 0 1 refl
+            (name-shallow phase_name) (literal-shallow (plain counters.phase.width counters.phase.most))),
         (
           expr-of 2 is_due_now (omega arith) (binary-shallow Both (Name end_name) (is_zero wait_name) 0 1 2 refl (name-shallow end_name) (zero-shallow wait_name)),
           (
-            expr-of 2 (unless begin_name (codes "in_valid")) (omega arith) (binary-shallow Either (is_zero begin_name) (Name (codes "in_valid")) 1 0 2 refl (zero-shallow begin_name) (name-shallow (codes "in_valid"))),
+            expr-of 2 (unless begin_name (codes "in_valid")) (omega arith)
+                (binary-shallow Either (is_zero begin_name) (Name (codes "in_valid")) 1 0 2 refl
+                (zero-shallow begin_name) (name-shallow (codes "in_valid"))),
             (
-              expr-of 2 (unless due_name (codes "out_ready")) (omega arith) (binary-shallow Either (is_zero due_name) (Name (codes "out_ready")) 1 0 2 refl (zero-shallow due_name) (name-shallow (codes "out_ready"))),
+              expr-of 2 (unless due_name (codes "out_ready")) (omega arith)
+                  (binary-shallow Either (is_zero due_name) (Name (codes "out_ready")) 1 0 2 refl
+                  (zero-shallow due_name) (name-shallow (codes "out_ready"))),
               (
                 expr-of 1 (both fed_name open_name) (omega arith) (both-shallow fed_name open_name),
                 (

@@ -10,7 +10,8 @@ use Rattle.vl_ast.specs.Value.{assigned, assigned_number, extended, is_true, tru
 use Rattle.st_wrap.specs.inner.Columns.{plain}
 use Rattle.st_wrap.specs.inner.Control.{is_zero, number}
 use Rattle.vl_ast.proofs.Copies.{extended-same, one-width}
-use Rattle.vl_ast.proofs.Forms.{length-Name, length-Literal, length-Binary, length-Choose, sign-Name, sign-Literal, sign-Binary, sign-Choose, value-Name, value-Literal, value-Unary, value-Binary, value-Choose}
+use Rattle.vl_ast.proofs.Forms.{length-Name, length-Literal, length-Binary, length-Choose, sign-Name, sign-Literal, sign-Binary, sign-Choose, value-Name, value-Literal, value-Unary, value-Binary}
+use Rattle.vl_ast.proofs.Forms.{value-Choose}
 
 -- ---- truth
 

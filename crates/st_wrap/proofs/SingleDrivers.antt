@@ -1,5 +1,6 @@
 -- The wrapper drives no name twice.
-use Rattle.std.proofs.Common.{◌≡◌, ◌≢◌, ℕ, ◌+◌, ◌≤◌, ◌⊎◌, inl, inr, ⊎_elim, Bool, true, false, not, ◌&&◌, if◌then◌else◌, List, [], ◌∷◌, ◌++◌, map, flat_map, filter, length, Contains, bytes_eq, codes, refl, sym, ap, subst, ◌∙◌, arith}
+use Rattle.std.proofs.Common.{◌≡◌, ◌≢◌, ℕ, ◌+◌, ◌≤◌, ◌⊎◌, inl, inr, ⊎_elim, Bool, true, false, not, ◌&&◌, if◌then◌else◌, List, [], ◌∷◌, ◌++◌, map, flat_map, filter, length, Contains, bytes_eq, codes}
+use Rattle.std.proofs.Common.{refl, sym, ap, subst, ◌∙◌, arith}
 use Rattle.std.specs.List.{range_with_len, zip}
 use Rattle.std.proofs.lemmas.Bool.{and_parts, cases_Bool, eqb-false, false≢true, not-true, or_parts}
 use Rattle.std.proofs.lemmas.List.Concat.{flat_map-append, flat_map_single}
@@ -30,7 +31,8 @@ use Rattle.st_wrap.proofs.Apart.{Apart, apart-append, apart-flat, apart-left, ap
 use Rattle.st_wrap.proofs.ColumnPorts.{from-filter, number-input, zip-left}
 use Rattle.st_wrap.proofs.OneRun.{clk-port}
 use Rattle.st_wrap.proofs.Letters.{by-letter, column-letter, held-same, inner-letter, inner-same, late-same, letter, off, shared-cases}
-use Rattle.st_wrap.proofs.NamesOnce.{apart-range, by-test, column_name, columns-apart, driven-renamed, driven_in, flat-empty, in-each, in-range, items-renamed, late-small, map-twice, names-append, names-flat, names-map, output-name}
+use Rattle.st_wrap.proofs.NamesOnce.{apart-range, by-test, column_name, columns-apart, driven-renamed, driven_in, flat-empty, in-each, in-range, items-renamed, late-small, map-twice, names-append}
+use Rattle.st_wrap.proofs.NamesOnce.{names-flat, names-map, output-name}
 use Rattle.st_wrap.proofs.Once.{in-late, late_names, port-mentions, port_name}
 use Rattle.st_wrap.proofs.NameReads.{control-mentions, held-mentions, shown-mentions, stage-mentions}
 
@@ -91,7 +93,8 @@ late_drives column = late_names column ++ column.name ∷ []
 late-driven : (column : Column) → driven_in (late_driven column) ≡ late_drives column
 late-driven column =
     names-append driven_names (map (stage_driven column) (range_with_len 0 column.late)) (Assign column.name (Name (stage_name column column.late)) ∷ [])
-    ∙ (λ i. (names-map driven_names (stage_driven column) (λ place. late_name column.name (place + 1) ∷ []) (range_with_len 0 column.late) (λ place. ap (flat_map driven_names) (stage-mentions column place))
+    ∙ (λ i. (names-map driven_names (stage_driven column) (λ place. late_name column.name (place + 1) ∷ [])
+    (range_with_len 0 column.late) (λ place. ap (flat_map driven_names) (stage-mentions column place))
     ∙ flat_map_single (λ place. late_name column.name (place + 1)) (range_with_len 0 column.late)) i
     ++ (ap (λ ms. flat_map driven_names (ms ++ [])) (shown-mentions column)) i)
 
@@ -136,7 +139,9 @@ module _ (core : Module) (sound : BreaksNone core) (stallable : is_stallable cor
   -- ---- the inputs' columns
 
   -- a column's port
-  pub column-port : (column : Column) → Contains (inputs_of core names) column → (port : Port) × Contains core.ports port × (port.input ≡ true) × (is_shared port.name ≡ false) × (port.name ≡ column.inner) × (port.name ≢ codes "clk_enable")
+  pub column-port : (column : Column) → Contains (inputs_of core names) column
+      → (port : Port) × Contains core.ports port × (port.input ≡ true) × (is_shared port.name ≡ false)
+      × (port.name ≡ column.inner) × (port.name ≢ codes "clk_enable")
   column-port column c =
       let r = from-map input_column (named_inputs core names) column c in
       let z = zip-left (stimulus_ports core) names r.0 r.1 in
@@ -329,13 +334,18 @@ module _ (core : Module) (sound : BreaksNone core) (stallable : is_stallable cor
 
   pub driven-list : flat_map driven_names (mentions (wrapped core names counters)) ≡ all_driven
   driven-list =
-      flat_map-append driven_names (map (λ port. Declares (port_declared port)) (ports_of (inputs_of core names) (outputs_of core names))) (flat_map item_mentions (items_of core counters (inputs_of core names) (outputs_of core names)))
+      flat_map-append driven_names (map (λ port. Declares (port_declared port))
+      (ports_of (inputs_of core names) (outputs_of core names)))
+      (flat_map item_mentions (items_of core counters (inputs_of core names) (outputs_of core names)))
       ∙ (λ i. ports-drive-none (ports_of (inputs_of core names) (outputs_of core names)) i
-      ++ names-append driven_names (declared_items core counters (inputs_of core names) (outputs_of core names)) (core_items core ++ driven_items counters (inputs_of core names) (outputs_of core names)) i)
+      ++ names-append driven_names (declared_items core counters (inputs_of core names) (outputs_of core names))
+      (core_items core ++ driven_items counters (inputs_of core names) (outputs_of core names)) i)
       ∙ (λ i. declared-drive-none i ++ names-append driven_names (core_items core) (driven_items counters (inputs_of core names) (outputs_of core names)) i)
       ∙ (λ i. (ap (flat_map driven_names) (items-renamed core.items) ∙ driven-renamed (flat_map item_mentions core.items)) i ++ own-part i)
     where
-      own-part : driven_in (driven_items counters (inputs_of core names) (outputs_of core names)) ≡ control_drives ++ (flat_map held_pair (inputs_of core names) ++ flat_map late_drives (outputs_of core names))
+      own-part : driven_in (driven_items counters (inputs_of core names) (outputs_of core names))
+          ≡ control_drives
+          ++ (flat_map held_pair (inputs_of core names) ++ flat_map late_drives (outputs_of core names))
       own-part =
           names-append driven_names (control_driven counters) (flat_map held_driven (inputs_of core names) ++ flat_map late_driven (outputs_of core names))
           ∙ (λ i. ap (flat_map driven_names) (control-mentions counters) i ++ names-append driven_names (flat_map held_driven (inputs_of core names)) (flat_map late_driven (outputs_of core names)) i)

@@ -61,7 +61,8 @@ outputs-short : (columns : List Column) → PortsShort (map (λ column. output_p
 outputs-short [] = tt
 outputs-short (column ∷ columns) = ((period-short, (latency-short, tt)), outputs-short columns)
 
-module _ (core : Module) (sound : BreaksNone core) (stallable : is_stallable core ≡ true) (names : List (List ℕ)) (named : AreColumnNames core names) (counters : Counters) (bytes : List ℕ) (spells : Spells bytes core) where
+module _ (core : Module) (sound : BreaksNone core) (stallable : is_stallable core ≡ true) (names : List (List ℕ))
+    (named : AreColumnNames core names) (counters : Counters) (bytes : List ℕ) (spells : Spells bytes core) where
   abbrev inputs : List Column
   inputs = inputs_of core names
 

@@ -1,5 +1,6 @@
 -- What the wrapper has: its control, and the core by other names.
-use Rattle.std.proofs.Common.{◌≡◌, ⊎_elim, ℕ, nat_le, not, ◌||◌, Bool, true, false, if◌then◌else◌, List, [], ◌∷◌, ◌++◌, map, flat_map, Contains, bytes_eq, codes, Some, refl, sym, ap, subst, ◌∙◌, arith}
+use Rattle.std.proofs.Common.{◌≡◌, ⊎_elim, ℕ, nat_le, not, ◌||◌, Bool, true, false, if◌then◌else◌, List, [], ◌∷◌, ◌++◌, map, flat_map, Contains, bytes_eq, codes, Some, refl, sym, ap, subst, ◌∙◌}
+use Rattle.std.proofs.Common.{arith}
 use Rattle.std.specs.List.{list_any}
 use Rattle.std.proofs.lemmas.Bool.{cases_Bool, cond-false, or_parts, not-false}
 use Rattle.std.proofs.lemmas.List.Elements.{Contains-append_left, Contains-append_right}
@@ -141,7 +142,8 @@ module _ (core : Module) (counters : Counters) (inputs outputs : List Column) wh
   -- ---- the core
 
   module _ (small : BreaksNone core) (large : IsAcyclic (made_of core counters inputs outputs)) where
-    there-as : (d other : Declared) → Contains (mentions (made_of core counters inputs outputs)) (Declares other) → other.name ≡ inner_name d.name → other.net ≡ d.net → IsThere (made_of core counters inputs outputs) d
+    there-as : (d other : Declared) → Contains (mentions (made_of core counters inputs outputs)) (Declares other)
+        → other.name ≡ inner_name d.name → other.net ≡ d.net → IsThere (made_of core counters inputs outputs) d
     there-as d other h name net = record { other = other; listed = mention-listed (made_of core counters inputs outputs) large.driven large.once other h; name = name; net = net }
 
     some-same : {d e : Declared} → Some d ≡ Some e → d ≡ e
@@ -160,7 +162,9 @@ module _ (core : Module) (counters : Counters) (inputs outputs : List Column) wh
     faults = neither (if nat_le (place_of core (codes "clk")) (place_of core (codes "reset")) then codes "clk" else codes "reset") (is_clk_at_fault core) (is_reset_at_fault core) small.clocked
 
     clk-bit : list_any (is_bit_input (codes "clk")) core.ports ≡ true
-    clk-bit = not-false (list_any (is_bit_input (codes "clk")) core.ports) (or_parts (not (list_any (is_bit_input (codes "clk")) core.ports)) (list_any (is_read_of (codes "clk")) (mentions core)) faults.0).0
+    clk-bit = not-false (list_any (is_bit_input (codes "clk")) core.ports)
+        (or_parts (not (list_any (is_bit_input (codes "clk")) core.ports))
+        (list_any (is_read_of (codes "clk")) (mentions core)) faults.0).0
 
     reset-bit : list_any (is_bit_input (codes "reset")) core.ports ≡ true
     reset-bit = not-false (list_any (is_bit_input (codes "reset")) core.ports) faults.1
@@ -187,12 +191,18 @@ module _ (core : Module) (counters : Counters) (inputs outputs : List Column) wh
 
     by-declaration : (d : Declared) → Contains (mentions core) (Declares d) → Declaration core small.acyclic.driven small.acyclic.once d → IsThere (made_of core counters inputs outputs) d
     by-declaration d h (OfWire signed width there kind) = moved d h PlainWire (record { width = width; signed = signed })
-        (wire-declared core small.acyclic.driven small.acyclic.once signed width d.name there) (wire-declared (made_of core counters inputs outputs) large.driven large.once signed width (inner_name d.name) (core-there _ there))
+        (wire-declared core small.acyclic.driven small.acyclic.once signed width d.name there)
+        (wire-declared (made_of core counters inputs outputs) large.driven large.once signed width
+        (inner_name d.name) (core-there _ there))
     by-declaration d h (OfReg signed width there kind) = moved d h Register (record { width = width; signed = signed })
-        (reg-declared core small.acyclic.driven small.acyclic.once signed width d.name there) (reg-declared (made_of core counters inputs outputs) large.driven large.once signed width (inner_name d.name) (core-there _ there))
+        (reg-declared core small.acyclic.driven small.acyclic.once signed width d.name there)
+        (reg-declared (made_of core counters inputs outputs) large.driven large.once signed width
+        (inner_name d.name) (core-there _ there))
     by-declaration d h (OfPort port there same) = ⊎_elim
         (λ on. ⊎_elim
-        (λ clk. shared d h (codes "clk") (bit-port (codes "clk") core.ports clk-bit) (front-there (bit_input (codes "clk")) (0, omega arith, refl)) refl (sym (ap (λ (e : Declared). e.name) same) ∙ (bytes_eq-Decides port.name (codes "clk")).0 clk))
+        (λ clk. shared d h (codes "clk") (bit-port (codes "clk") core.ports clk-bit)
+        (front-there (bit_input (codes "clk")) (0, omega arith, refl)) refl
+        (sym (ap (λ (e : Declared). e.name) same) ∙ (bytes_eq-Decides port.name (codes "clk")).0 clk))
         (λ other. shared d h (codes "reset") (bit-port (codes "reset") core.ports reset-bit) (front-there (bit_input (codes "reset")) (1, omega arith, refl)) refl
         (sym (ap (λ (e : Declared). e.name) same) ∙ (bytes_eq-Decides port.name (codes "reset")).0 (or-other (bytes_eq port.name (codes "clk")) (bytes_eq port.name (codes "reset")) on other)))
         (cases_Bool (bytes_eq port.name (codes "clk"))))

@@ -85,7 +85,9 @@ module _ (bytes : List ℕ) (m : Module) (spells : Spells bytes m) where
       (Contains-append_left (flat_map (λ item. item) spells.grammar.items) (Key (codes "endmodule") ∷ []) t
       (flat-in (λ item. item) spells.grammar.items text t h c)))))
 
-  declaration-name : (key name : List ℕ) (signed : Bool) (range text : List Token) → Contains spells.grammar.items text → text ≡ declaration_tokens (Key key ∷ []) signed range name ++ Sign (codes ";") ∷ [] → is_identifier name ≡ true
+  declaration-name : (key name : List ℕ) (signed : Bool) (range text : List Token)
+      → Contains spells.grammar.items text → text
+      ≡ declaration_tokens (Key key ∷ []) signed range name ++ Sign (codes ";") ∷ [] → is_identifier name ≡ true
   declaration-name key name signed range text c is =
       name-of name (in-item text (Identifier name) c (subst (λ ts. Contains ts (Identifier name)) (sym is)
       (Contains-append_left (declaration_tokens (Key key ∷ []) signed range name) (Sign (codes ";") ∷ []) (Identifier name) (declared-token (Key key ∷ []) signed range name))))

@@ -50,7 +50,8 @@ module _ (core : Module) (names : List (List ℕ)) (counters : Counters) (counts
             window start inputs rows last runs;
       }
 
-module _ (one : OneRun) (thins : CountedRun) (core : Module) (names : List (List ℕ)) (counters : Counters) (counts : CountFor core counters) (sound : BreaksNone core) (stallable : is_stallable core ≡ true)
+module _ (one : OneRun) (thins : CountedRun) (core : Module) (names : List (List ℕ)) (counters : Counters)
+    (counts : CountFor core counters) (sound : BreaksNone core) (stallable : is_stallable core ≡ true)
     (keeps : KeepsBits core) (named : AreColumnNames core names) where
   none-broken : BreaksNone (wrapped core names counters)
   none-broken = breaks-none core names counters counts sound stallable named

@@ -49,11 +49,15 @@ third_is = by_known (λ a. IsOperation crowded_diagram a crowded 2 (operation 1 
 hits : (t : ℕ) → Hits ((attributes_of crowded_diagram).period_at 1) t
 hits t = by_known (λ a. Hits (a.period_at 1) t) (omega arith)
 
-one_unit : unit_of crowded_diagram (attributes_of crowded_diagram) crowded crowded_timing 0 (operation 1 0) ≡ unit_of crowded_diagram (attributes_of crowded_diagram) crowded crowded_timing 2 (operation 1 2)
+one_unit : unit_of crowded_diagram (attributes_of crowded_diagram) crowded crowded_timing 0 (operation 1 0)
+    ≡ unit_of crowded_diagram (attributes_of crowded_diagram) crowded crowded_timing 2 (operation 1 2)
 one_unit = by_known (λ a. unit_of crowded_diagram a crowded crowded_timing 0 (operation 1 0) ≡ unit_of crowded_diagram a crowded crowded_timing 2 (operation 1 2)) refl
 
 one_clock : clock_of crowded_diagram crowded crowded_timing 0 (operation 1 0) 1 ≡ clock_of crowded_diagram crowded crowded_timing 2 (operation 1 2) 0
-one_clock = by_known (λ a. (1 + latency_at crowded_timing.lat 1) * 2 + slot_of crowded_diagram a crowded crowded_timing 0 (operation 1 0) ≡ (0 + latency_at crowded_timing.lat 1) * 2 + slot_of crowded_diagram a crowded crowded_timing 2 (operation 1 2)) refl
+one_clock = by_known (λ a. (1 + latency_at crowded_timing.lat 1) * 2
+    + slot_of crowded_diagram a crowded crowded_timing 0 (operation 1 0)
+    ≡ (0 + latency_at crowded_timing.lat 1) * 2
+    + slot_of crowded_diagram a crowded crowded_timing 2 (operation 1 2)) refl
 
 not_crowded : (m : Module) → ¬ IsModuleOf m crowded_diagram crowded crowded_timing
 not_crowded m owed =
@@ -69,7 +73,9 @@ read_name x = ap names_read (sym (rolls-Name x)) ∙ fold-roll-Expr (List (List 
 
 not_read : (m : Module) (reader : List ℕ) → Contains m.items (Assign reader (Name (stage_name 1 0 1))) → reader ≢ stage_name 1 0 2 → ¬ IsModuleOf m diagram twice twice_timing
 not_read m reader there other owed =
-    let reads : Contains (names_read (Name (stage_name 1 0 1))) (stage_name 1 0 1) = subst (λ (names : List (List ℕ)). Contains names (stage_name 1 0 1)) (sym (read_name (stage_name 1 0 1))) (0, lit< tt, refl) in
+    let reads : Contains (names_read (Name (stage_name 1 0 1))) (stage_name 1 0 1) =
+    subst (λ (names : List (List ℕ)). Contains names (stage_name 1 0 1)) (sym (read_name (stage_name 1 0 1)))
+    (0, lit< tt, refl) in
     other (((whole_modules_owe.two m owed).held 0 (lit< tt)).between (Assign reader (Name (stage_name 1 0 1))) there reads)
 
 not_unnamed : (m : Module) → ¬ IsWire m (multiplication_name 1 1) → ¬ IsModuleOf m diagram plain plain_timing

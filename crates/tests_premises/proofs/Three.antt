@@ -39,7 +39,8 @@ line_items source target =
     ∷ quoted (codes "DstBlock") target ∷ bare (codes "DstPort") (codes "1") ∷ []
 
 -- digits alone are the decimal of their number
-pub whole_number : (text : List ℕ) (d : Decimal) → AreDigits text → 1 ≤ length text → d.negative ≡ false → d.digits ≡ digits_value 10 text → digits_value 10 text < 10 ^ 18 → d.exponent ≡ pos 0 → IsDecimal text d
+pub whole_number : (text : List ℕ) (d : Decimal) → AreDigits text → 1 ≤ length text → d.negative ≡ false
+    → d.digits ≡ digits_value 10 text → digits_value 10 text < 10 ^ 18 → d.exponent ≡ pos 0 → IsDecimal text d
 whole_number text d digits some negative is few exponent =
     let all : text ≡ text ++ [] = sym (append-nil text) in
     inr (inr (record {

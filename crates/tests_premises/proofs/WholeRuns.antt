@@ -1,5 +1,6 @@
 -- Each module of the whole model has a run that the stimulus drives, in which every row counts.
-use Rattle.std.proofs.Common.{◌≡◌, ℕ, zero, suc, ◌+◌, ◌-◌, ◌*◌, ◌/◌, ◌^◌, ◌<◌, ◌≤◌, ℤ, true, true≢false, if◌then◌else◌, List, [], ◌∷◌, Some, slice_get, Contains, bytes_eq, codes, refl, sym, ap, subst, ◌∙◌, arith}
+use Rattle.std.proofs.Common.{◌≡◌, ℕ, zero, suc, ◌+◌, ◌-◌, ◌*◌, ◌/◌, ◌^◌, ◌<◌, ◌≤◌, ℤ, true, true≢false, if◌then◌else◌, List, [], ◌∷◌, Some, slice_get, Contains, bytes_eq, codes, refl, sym, ap, subst}
+use Rattle.std.proofs.Common.{◌∙◌, arith}
 use Rattle.std.proofs.Math.Dec.{lit<}
 use Rattle.std.proofs.Math.Nat.{div-lt_iff_lt-mul, le-div_iff_mul-le}
 use Rattle.std.proofs.lemmas.Option.{same_Some}
@@ -24,7 +25,9 @@ use Rattle.vl_ast.proofs.SomeInputs.{bits-fit}
 
 -- ---- a module with these ports
 abbrev ports : List Port
-ports = bit_input (codes "clk") ∷ bit_input (codes "reset") ∷ bit_input (codes "clk_enable") ∷ input_of (codes "u_0") ∷ input_of (codes "u_1") ∷ bit_output (codes "ce_out") ∷ output_of (codes "y_0") ∷ output_of (codes "y_1") ∷ []
+ports = bit_input (codes "clk") ∷ bit_input (codes "reset") ∷ bit_input (codes "clk_enable")
+    ∷ input_of (codes "u_0") ∷ input_of (codes "u_1") ∷ bit_output (codes "ce_out") ∷ output_of (codes "y_0")
+    ∷ output_of (codes "y_1") ∷ []
 
 abbrev whole : List ModItem → Module
 whole items = record { name = codes "fx_model"; attrs = attribute_of (codes "fx_cycles") 3 ∷ []; ports = ports; items = items }

@@ -35,12 +35,28 @@ IsRight block port element t = Equation diagram attributes stimulus table block 
 
 scales : (port element t : ℕ) → element < 2 → t < 3 → IsRight 1 port element t
 scales port zero zero inside below = (Gain (pos 3) int8, (pos 3, stores_small 3 (lit< tt) (lit< tt), refl), (int16, int16_full, same (pos 3) (record { low = le_z_yes tt; high = le_z_yes tt })))
-scales port zero (suc zero) inside below = (Gain (pos 3) int8, (pos 3, stores_small 3 (lit< tt) (lit< tt), refl), (int16, int16_full, same (negsuc 5) (record { low = le_z_yes tt; high = le_z_yes tt })))
-scales port zero (suc (suc zero)) inside below = (Gain (pos 3) int8, (pos 3, stores_small 3 (lit< tt) (lit< tt), refl), (int16, int16_full, same (pos 381) (record { low = le_z_yes tt; high = le_z_yes tt })))
+scales port zero (suc zero) inside below = (
+  Gain (pos 3) int8,
+  (pos 3, stores_small 3 (lit< tt) (lit< tt), refl),
+  (int16, int16_full, same (negsuc 5) (record { low = le_z_yes tt; high = le_z_yes tt })),
+)
+scales port zero (suc (suc zero)) inside below = (
+  Gain (pos 3) int8,
+  (pos 3, stores_small 3 (lit< tt) (lit< tt), refl),
+  (int16, int16_full, same (pos 381) (record { low = le_z_yes tt; high = le_z_yes tt })),
+)
 scales port zero (suc (suc (suc t))) inside below = absurd (omega arith)
 scales port (suc zero) zero inside below = (Gain (pos 5) int8, (pos 5, stores_small 5 (lit< tt) (lit< tt), refl), (int16, int16_full, same (pos 50) (record { low = le_z_yes tt; high = le_z_yes tt })))
-scales port (suc zero) (suc zero) inside below = (Gain (pos 5) int8, (pos 5, stores_small 5 (lit< tt) (lit< tt), refl), (int16, int16_full, same (pos 100) (record { low = le_z_yes tt; high = le_z_yes tt })))
-scales port (suc zero) (suc (suc zero)) inside below = (Gain (pos 5) int8, (pos 5, stores_small 5 (lit< tt) (lit< tt), refl), (int16, int16_full, same (negsuc 639) (record { low = le_z_yes tt; high = le_z_yes tt })))
+scales port (suc zero) (suc zero) inside below = (
+  Gain (pos 5) int8,
+  (pos 5, stores_small 5 (lit< tt) (lit< tt), refl),
+  (int16, int16_full, same (pos 100) (record { low = le_z_yes tt; high = le_z_yes tt })),
+)
+scales port (suc zero) (suc (suc zero)) inside below = (
+  Gain (pos 5) int8,
+  (pos 5, stores_small 5 (lit< tt) (lit< tt), refl),
+  (int16, int16_full, same (negsuc 639) (record { low = le_z_yes tt; high = le_z_yes tt })),
+)
 scales port (suc zero) (suc (suc (suc t))) inside below = absurd (omega arith)
 scales port (suc (suc element)) t inside below = absurd (omega arith)
 

@@ -85,7 +85,19 @@ has_gain : HasSettings tree.items block_type.Gain 8 gain_settings
 unfolding is_blank
 has_gain = (
   Setting.List coefficients,
-  (coefficients, record { texts = codes "3" ∷ codes "5" ∷ []; are_elements = refl; read = (whole_number (codes "3") three refl (lit≤ tt) refl refl (lit< tt) refl, (whole_number (codes "5") five refl (lit≤ tt) refl refl (lit< tt) refl, tt)); size = (lit≤ tt, lit≤ tt) }, refl),
+  (
+    coefficients,
+    record {
+      texts = codes "3" ∷ codes "5" ∷ [];
+      are_elements = refl;
+      read = (
+        whole_number (codes "3") three refl (lit≤ tt) refl refl (lit< tt) refl,
+        (whole_number (codes "5") five refl (lit≤ tt) refl refl (lit< tt) refl, tt),
+      );
+      size = (lit≤ tt, lit≤ tt);
+    },
+    refl,
+  ),
   (
     Setting.Coefficient (Fixed int8),
     (Fixed int8, inl refl, refl),

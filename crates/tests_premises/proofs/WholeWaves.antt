@@ -74,12 +74,14 @@ first_numbers : (m : Module) (row : Row) (t : ℕ) → IsServed m diagram table 
 first_numbers m row t served = numbers_of m row served.left served.right (firsts t) (pos 3) served.multiplied (served.operands.first ∙ left_first t) (right_first served.right served.operands.second)
 
 second_numbers : (m : Module) (row : Row) (t : ℕ) → IsServed m diagram table row 0 (operation 1 1) gain_block t → MultipliesNumbers m row (seconds t) (pos 5)
-second_numbers m row t served = numbers_of m row served.left served.right (seconds t) (pos 5) served.multiplied (served.operands.first ∙ left_second t) (right_second served.right served.operands.second)
+second_numbers m row t served = numbers_of m row served.left served.right (seconds t) (pos 5) served.multiplied
+    (served.operands.first ∙ left_second t) (right_second served.right served.operands.second)
 
 gain_hits : (t : ℕ) → Hits ((attributes_of diagram).period_at 1) t
 gain_hits t = subst (λ (a : Attributes). Hits (a.period_at 1) t) (sym attributes_known) (omega arith)
 
-is_operation : (number element : ℕ) → slice_get (operation 1 0 ∷ operation 1 1 ∷ []) number ≡ Some (operation 1 element) → IsOperation diagram (attributes_of diagram) resolved number (operation 1 element)
+is_operation : (number element : ℕ) → slice_get (operation 1 0 ∷ operation 1 1 ∷ []) number
+    ≡ Some (operation 1 element) → IsOperation diagram (attributes_of diagram) resolved number (operation 1 element)
 is_operation number element at = subst (λ (operations : List Operation). slice_get operations number ≡ Some (operation 1 element)) (sym shared.both) at
 
 module _ (some : (m : Module) (count : ℕ) (start : Row) (inputs : Rows) → BreaksNone m → HasRoom m count start inputs → HasRows m count start inputs)
@@ -91,7 +93,10 @@ module _ (some : (m : Module) (count : ℕ) (start : Row) (inputs : Rows) → Br
   header =
       subst (λ (ports : List Port). HasHeader m 3 input_ports ports) outputs_are
       (subst (λ (ports : List Port). HasHeader m 3 ports (map (λ e. output_port (output_data diagram resolved timing e)) (output_elements whole_names diagram))) inputs_are
-      (subst (λ (names : List (List ℕ)). HasHeader m 3 (map (λ e. input_port (input_data e)) (input_elements names diagram)) (map (λ e. output_port (output_data diagram resolved timing e)) (output_elements names diagram))) names_known owed.carries.header))
+      (subst (λ (names : List (List ℕ)). HasHeader m 3
+      (map (λ e. input_port (input_data e)) (input_elements names diagram))
+      (map (λ e. output_port (output_data diagram resolved timing e)) (output_elements names diagram)))
+      names_known owed.carries.header))
 
   run : RunsWhole m start
   run = whole_modules_run some m start header owed.carries.sound fits
@@ -116,8 +121,11 @@ module _ (some : (m : Module) (count : ℕ) (start : Row) (inputs : Rows) → Br
       output_shows name element place at t below (omega arith) (t * 3 + 5) (t * 3 + 5) (omega (arith, late)) (omega arith) (clock (t * 3 + 5) (omega (arith, below)))
 
   -- ---- the multiplier
-  served_is : (number element slot : ℕ) → IsOperation diagram (attributes_of diagram) resolved number (operation 1 element) → slot_of diagram (attributes_of diagram) resolved timing number (operation 1 element) ≡ slot → slot < 3
-      → unit_of diagram (attributes_of diagram) resolved timing number (operation 1 element) ≡ 0 → (t : ℕ) → t < 3 → IsServed m diagram table (run.rows (row_at window (t * 3 + slot))) 0 (operation 1 element) gain_block t
+  served_is : (number element slot : ℕ) → IsOperation diagram (attributes_of diagram) resolved number
+      (operation 1 element) → slot_of diagram (attributes_of diagram) resolved timing number (operation 1 element)
+      ≡ slot → slot < 3
+      → unit_of diagram (attributes_of diagram) resolved timing number (operation 1 element) ≡ 0 → (t : ℕ) → t < 3
+      → IsServed m diagram table (run.rows (row_at window (t * 3 + slot))) 0 (operation 1 element) gain_block t
   served_is number element slot is slot_is small unit t below =
       let in_clock : clock_of diagram resolved timing number (operation 1 element) t ≡ t * 3 + slot = omega (arith, slot_is) in
       subst (λ (u : ℕ). IsServed m diagram table (run.rows (row_at window (t * 3 + slot))) u (operation 1 element) gain_block t) unit

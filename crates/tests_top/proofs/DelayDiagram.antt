@@ -77,10 +77,12 @@ dimensions : KeepsDimensions diagram
 dimensions = dimensions_kept diagram widths refl dimensions-by (record { outputs = omega arith; inputs = omega arith; delays = omega arith })
 
 narrow-by : AllKeep diagram (IsNotWide diagram types)
-narrow-by = each_by (IsNotWide diagram types) diagram.blocks (λ named known. absurd (true≢false (sym named))) (λ named known. absurd (true≢false (sym named))) (λ named known. absurd (true≢false (sym named)))
+narrow-by = each_by (IsNotWide diagram types) diagram.blocks (λ named known. absurd (true≢false (sym named)))
+    (λ named known. absurd (true≢false (sym named))) (λ named known. absurd (true≢false (sym named)))
 
 known-by : AllKeep diagram (HasTypes diagram types)
-known-by = each_by (HasTypes diagram types) diagram.blocks (record { outputs = λ some. refl; inputs = none_known }) (record { outputs = λ some. refl; inputs = one_known }) (record { outputs = λ some. refl; inputs = one_known })
+known-by = each_by (HasTypes diagram types) diagram.blocks (record { outputs = λ some. refl; inputs = none_known })
+    (record { outputs = λ some. refl; inputs = one_known }) (record { outputs = λ some. refl; inputs = one_known })
 
 agree-by : AllKeep diagram (HasAgreeing diagram types)
 agree-by = each_by (HasAgreeing diagram types) diagram.blocks (record { written = tt; inside = tt }) (record { written = tt; inside = tt }) (record { written = tt; inside = tt })

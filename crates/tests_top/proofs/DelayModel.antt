@@ -31,7 +31,9 @@ use Rattle.tests_premises.proofs.Three.{section, bare, quoted, line_items, as_dr
 -- ---- the text, and the tree that it stands for
 
 abbrev pub model_text : List ℕ
-model_text = codes "Model {\n  Name \"one\"\n  System {\n    Block {\n      BlockType Inport\n      Name \"u\"\n      OutDataTypeStr \"int8\"\n    }\n    Block {\n      BlockType UnitDelay\n      Name \"D\"\n      InitialCondition \"3\"\n    }\n    Block {\n      BlockType Outport\n      Name \"y\"\n    }\n    Line {\n      SrcBlock \"u\"\n      SrcPort 1\n      DstBlock \"D\"\n      DstPort 1\n    }\n    Line {\n      SrcBlock \"D\"\n      SrcPort 1\n      DstBlock \"y\"\n      DstPort 1\n    }\n  }\n}\n"
+model_text =
+    codes
+    "Model {\n  Name \"one\"\n  System {\n    Block {\n      BlockType Inport\n      Name \"u\"\n      OutDataTypeStr \"int8\"\n    }\n    Block {\n      BlockType UnitDelay\n      Name \"D\"\n      InitialCondition \"3\"\n    }\n    Block {\n      BlockType Outport\n      Name \"y\"\n    }\n    Line {\n      SrcBlock \"u\"\n      SrcPort 1\n      DstBlock \"D\"\n      DstPort 1\n    }\n    Line {\n      SrcBlock \"D\"\n      SrcPort 1\n      DstBlock \"y\"\n      DstPort 1\n    }\n  }\n}\n"
 
 abbrev blocks : List Item
 blocks =

@@ -1,6 +1,7 @@
 -- A replay of the unit delay with initial value 3, worked out by hand: of 5, -1, 127 it writes 3, 5, -1, with status 0.
 use Rattle.std.specs.Prelude.{⊤}
-use Rattle.std.proofs.Common.{◌≡◌, ◌<◌, ◌≤◌, ◌+◌, ◌*◌, ◌/◌, if◌then◌else◌, ℕ, ℤ, zero, suc, pos, negsuc, List, [], ◌∷◌, true, false, None, Some, Contains, slice_get, length, map, inl, bytes_eq, codes, refl, ap, sym, ◌∙◌, subst, arith}
+use Rattle.std.proofs.Common.{◌≡◌, ◌<◌, ◌≤◌, ◌+◌, ◌*◌, ◌/◌, if◌then◌else◌, ℕ, ℤ, zero, suc, pos, negsuc, List, [], ◌∷◌, true, false, None, Some, Contains, slice_get, length, map, inl, bytes_eq, codes}
+use Rattle.std.proofs.Common.{refl, ap, sym, ◌∙◌, subst, arith}
 use Rattle.std.specs.Fmt.{digits}
 use Rattle.vl_ast.specs.declared.expressions.Expr.TheOpen.{Expr-F}
 use Rattle.vl_ast.specs.declared.expressions.Expr.TheFolds.{fold-roll-Expr}
@@ -33,7 +34,9 @@ use Rattle.tests_top.proofs.DelayText.{is-module-text, module_text, module-writa
 use Rattle.tests_top.proofs.UnitDelay.{all, delay, m, stimulus, inputs, rows, driven, shown-by, runs}
 
 abbrev pub verilog_text : List ℕ
-verilog_text = codes "(* fx_cycles = 1 *)\nmodule fx_model (\n  input wire clk,\n  input wire reset,\n  (* fx_period = 1 *)\n  input wire signed [7:0] u,\n  (* fx_period = 1, fx_latency = 0 *)\n  output wire signed [7:0] y\n);\nreg signed [7:0] fx_delay;\nalways @ (posedge clk) begin if (reset) fx_delay <= 8'sd3; else fx_delay <= u; end\nassign y = fx_delay;\nendmodule\n"
+verilog_text =
+    codes
+    "(* fx_cycles = 1 *)\nmodule fx_model (\n  input wire clk,\n  input wire reset,\n  (* fx_period = 1 *)\n  input wire signed [7:0] u,\n  (* fx_period = 1, fx_latency = 0 *)\n  output wire signed [7:0] y\n);\nreg signed [7:0] fx_delay;\nalways @ (posedge clk) begin if (reset) fx_delay <= 8'sd3; else fx_delay <= u; end\nassign y = fx_delay;\nendmodule\n"
 
 abbrev pub stimulus_text : List ℕ
 stimulus_text = codes "5\n-1\n127\n"
@@ -52,7 +55,18 @@ table (suc (suc t)) = negsuc 0 ∷ []
 -- ---- the text spells the module, which breaks no condition
 
 pub different : AreDifferent (codes "u") (codes "y")
-different = record { clk-u = (refl, refl); reset-u = (refl, refl); register-u = (refl, refl); clk-y = (refl, refl); reset-y = (refl, refl); register-y = (refl, refl); u-y = (refl, refl); u-u = refl; y-y = refl }
+different = record {
+  clk-u = (refl, refl);
+  reset-u = (refl, refl);
+  register-u = (refl, refl);
+  clk-y =
+      (refl, refl);
+  reset-y = (refl, refl);
+  register-y = (refl, refl);
+  u-y = (refl, refl);
+  u-u = refl;
+  y-y = refl;
+}
 
 text-name : (name : List ℕ) → expr_text (Name name) ≡ name
 text-name name = ap expr_text (sym (rolls-Name name)) ∙ fold-roll-Expr (List ℕ) expr_step (Expr-F.Name name)
@@ -192,7 +206,8 @@ fetched bytes within = record { within = within; held = λ entry is. let same : 
 
 replayed-delay : Ends (codes "replay" ∷ codes "v" ∷ codes "s" ∷ []) (both (codes "v") verilog_text) (took response_text) (took []) 0
 replayed-delay =
-    done IsReplayOf (codes "replay" ∷ codes "v" ∷ codes "s" ∷ []) (both (codes "v") verilog_text) (Replay (codes "v") (codes "s")) (codes "v") (codes "s") verilog_text stimulus_text response_text refl refl
+    done IsReplayOf (codes "replay" ∷ codes "v" ∷ codes "s" ∷ []) (both (codes "v") verilog_text)
+    (Replay (codes "v") (codes "s")) (codes "v") (codes "s") verilog_text stimulus_text response_text refl refl
     (fetched verilog_text (omega arith)) (fetched stimulus_text (omega arith)) (λ output. output) is-replay
 
 -- and it owes that status, but for want of memory

@@ -134,5 +134,6 @@ is-simulation = record { diagram = diagram; accepted = is-model; rows = numbers;
 
 simulated-delay : Ends (codes "simulate" ∷ codes "m" ∷ codes "s" ∷ []) (both (codes "m") model_text) (took response_text) (took []) 0
 simulated-delay =
-    done IsSimulationOf (codes "simulate" ∷ codes "m" ∷ codes "s" ∷ []) (both (codes "m") model_text) (Simulate (codes "m") (codes "s")) (codes "m") (codes "s") model_text stimulus_text response_text refl refl
+    done IsSimulationOf (codes "simulate" ∷ codes "m" ∷ codes "s" ∷ []) (both (codes "m") model_text)
+    (Simulate (codes "m") (codes "s")) (codes "m") (codes "s") model_text stimulus_text response_text refl refl
     (fetched model_text (omega arith)) (fetched stimulus_text (omega arith)) (λ output. output) is-simulation

@@ -65,7 +65,9 @@ item_texts d =
 abbrev pub module_text : OneDelay → List Token
 module_text d =
     (Sign (codes "(*") ∷ (attribute_tokens (codes "fx_cycles") 1 ++ Sign (codes "*)") ∷ []))
-    ++ (Key (codes "module") ∷ Identifier (codes "fx_model") ∷ Sign (codes "(") ∷ (joined comma (port_texts d) ++ (Sign (codes ")") ∷ Sign (codes ";") ∷ (flat_map (λ item. item) (item_texts d) ++ Key (codes "endmodule") ∷ []))))
+    ++ (Key (codes "module") ∷ Identifier (codes "fx_model") ∷ Sign (codes "(")
+    ∷ (joined comma (port_texts d) ++ (Sign (codes ")") ∷ Sign (codes ";")
+    ∷ (flat_map (λ item. item) (item_texts d) ++ Key (codes "endmodule") ∷ []))))
 
 byte_is : IsRange 8 byte_range
 byte_is = inr (omega arith, refl)

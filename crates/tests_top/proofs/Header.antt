@@ -19,20 +19,122 @@ unstallable d = neither (bytes_eq d.input (codes "clk_enable")) (bytes_eq d.outp
   neither false false = refl
 
 undriven-none : (d : OneDelay) → AreDifferent d.input d.output → undriven (delay_module d) ≡ None
-undriven-none d n = simp (reads-Name, sound-name, own_length-name, n.clk-u.0, n.clk-u.1, n.reset-u.0, n.reset-u.1, n.register-u.0, n.register-u.1, n.clk-y.0, n.clk-y.1, n.reset-y.0, n.reset-y.1, n.register-y.0, n.register-y.1, n.u-y.0, n.u-y.1, n.u-u, n.y-y)
+undriven-none d n = simp (
+  reads-Name,
+  sound-name,
+  own_length-name,
+  n.clk-u.0,
+  n.clk-u.1,
+  n.reset-u.0,
+  n.reset-u.1,
+  n.register-u.0,
+  n.register-u.1,
+  n.clk-y.0,
+  n.clk-y.1,
+  n.reset-y.0,
+  n.reset-y.1,
+  n.register-y.0,
+  n.register-y.1,
+  n.u-y.0,
+  n.u-y.1,
+  n.u-u,
+  n.y-y,
+)
 
 doubly-none : (d : OneDelay) → AreDifferent d.input d.output → doubly (delay_module d) ≡ None
-doubly-none d n = simp (reads-Name, sound-name, own_length-name, n.clk-u.0, n.clk-u.1, n.reset-u.0, n.reset-u.1, n.register-u.0, n.register-u.1, n.clk-y.0, n.clk-y.1, n.reset-y.0, n.reset-y.1, n.register-y.0, n.register-y.1, n.u-y.0, n.u-y.1, n.u-u, n.y-y)
+doubly-none d n = simp (
+  reads-Name,
+  sound-name,
+  own_length-name,
+  n.clk-u.0,
+  n.clk-u.1,
+  n.reset-u.0,
+  n.reset-u.1,
+  n.register-u.0,
+  n.register-u.1,
+  n.clk-y.0,
+  n.clk-y.1,
+  n.reset-y.0,
+  n.reset-y.1,
+  n.register-y.0,
+  n.register-y.1,
+  n.u-y.0,
+  n.u-y.1,
+  n.u-u,
+  n.y-y,
+)
 
 too_wide-none : (d : OneDelay) → AreDifferent d.input d.output → too_wide (delay_module d) ≡ None
-too_wide-none d n = simp (bits-are_number d.initial, reads-Name, sound-name, own_length-name, n.clk-u.0, n.clk-u.1, n.reset-u.0, n.reset-u.1, n.register-u.0, n.register-u.1, n.clk-y.0, n.clk-y.1, n.reset-y.0, n.reset-y.1, n.register-y.0, n.register-y.1, n.u-y.0, n.u-y.1, n.u-u, n.y-y)
+too_wide-none d n = simp (
+  bits-are_number d.initial,
+  reads-Name,
+  sound-name,
+  own_length-name,
+  n.clk-u.0,
+  n.clk-u.1,
+  n.reset-u.0,
+  n.reset-u.1,
+  n.register-u.0,
+  n.register-u.1,
+  n.clk-y.0,
+  n.clk-y.1,
+  n.reset-y.0,
+  n.reset-y.1,
+  n.register-y.0,
+  n.register-y.1,
+  n.u-y.0,
+  n.u-y.1,
+  n.u-u,
+  n.y-y,
+)
 
 no_reset-none : (d : OneDelay) → AreDifferent d.input d.output → no_reset (delay_module d) ≡ None
-no_reset-none d n = simp (reads-Name, sound-name, own_length-name, n.clk-u.0, n.clk-u.1, n.reset-u.0, n.reset-u.1, n.register-u.0, n.register-u.1, n.clk-y.0, n.clk-y.1, n.reset-y.0, n.reset-y.1, n.register-y.0, n.register-y.1, n.u-y.0, n.u-y.1, n.u-u, n.y-y)
+no_reset-none d n = simp (
+  reads-Name,
+  sound-name,
+  own_length-name,
+  n.clk-u.0,
+  n.clk-u.1,
+  n.reset-u.0,
+  n.reset-u.1,
+  n.register-u.0,
+  n.register-u.1,
+  n.clk-y.0,
+  n.clk-y.1,
+  n.reset-y.0,
+  n.reset-y.1,
+  n.register-y.0,
+  n.register-y.1,
+  n.u-y.0,
+  n.u-y.1,
+  n.u-u,
+  n.y-y,
+)
 
 no_attribute-none : (d : OneDelay) → AreDifferent d.input d.output → no_attribute (delay_module d) ≡ None
 no_attribute-none d n =
-    ap (λ stalls. option_map (λ (port : Port). port.name) (find (lacks_attribute stalls) (delay_module d).ports)) (unstallable d) ∙ simp (reads-Name, sound-name, own_length-name, n.clk-u.0, n.clk-u.1, n.reset-u.0, n.reset-u.1, n.register-u.0, n.register-u.1, n.clk-y.0, n.clk-y.1, n.reset-y.0, n.reset-y.1, n.register-y.0, n.register-y.1, n.u-y.0, n.u-y.1, n.u-u, n.y-y)
+    ap (λ stalls. option_map (λ (port : Port). port.name) (find (lacks_attribute stalls) (delay_module d).ports))
+    (unstallable d) ∙ simp (
+      reads-Name,
+      sound-name,
+      own_length-name,
+      n.clk-u.0,
+      n.clk-u.1,
+      n.reset-u.0,
+      n.reset-u.1,
+      n.register-u.0,
+      n.register-u.1,
+      n.clk-y.0,
+      n.clk-y.1,
+      n.reset-y.0,
+      n.reset-y.1,
+      n.register-y.0,
+      n.register-y.1,
+      n.u-y.0,
+      n.u-y.1,
+      n.u-u,
+      n.y-y,
+    )
 
 pub breaks-none : (d : OneDelay) → AreDifferent d.input d.output → BreaksNone (delay_module d)
 breaks-none d n = record {

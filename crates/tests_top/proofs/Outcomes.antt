@@ -45,8 +45,12 @@ without-file file is = record {
 }
 
 -- a command over two files that were fetched, whose text was put whole: status 0
-pub done : (IsMade : List ℕ → List ℕ → List ℕ → Type 0) (words : List (List ℕ)) (files : Files) (command : Command) (first second bytes numbers text : List ℕ) → asked_of words ≡ Some (OfFiles command) → files_of command ≡ first ∷ second ∷ []
-    → IsFetched files first bytes → IsFetched files second numbers → (IsOfFiles IsMade files.held first (Named second) text → IsOutput command files.held text) → IsMade bytes numbers text → Ends words files (took text) (took []) 0
+pub done : (IsMade : List ℕ → List ℕ → List ℕ → Type 0) (words : List (List ℕ)) (files : Files) (command : Command)
+    (first second bytes numbers text : List ℕ) → asked_of words ≡ Some (OfFiles command)
+    → files_of command ≡ first ∷ second ∷ []
+    → IsFetched files first bytes → IsFetched files second numbers
+    → (IsOfFiles IsMade files.held first (Named second) text → IsOutput command files.held text)
+    → IsMade bytes numbers text → Ends words files (took text) (took []) 0
 done IsMade words files command first second bytes numbers text asked are fetched given output made =
     let P : List ℕ → Type 0 = λ file. (found : List ℕ) × IsFetched files file found in
     record {

@@ -1,6 +1,7 @@
 -- Rows of the module of one delay with initial value 3, by hand: driven by 5, -1, 127 its register holds 3, 5, -1.
 use Rattle.std.specs.Prelude.{⊤}
-use Rattle.std.proofs.Common.{◌≡◌, ◌<◌, ◌≤◌, ◌+◌, ◌*◌, ◌^◌, ◌||◌, if◌then◌else◌, ℕ, zero, suc, pos, negsuc, List, [], ◌∷◌, Bool, true, Option, None, Some, Contains, slice_get, bytes_eq, codes, refl, ap, sym, ◌∙◌, subst, arith}
+use Rattle.std.proofs.Common.{◌≡◌, ◌<◌, ◌≤◌, ◌+◌, ◌*◌, ◌^◌, ◌||◌, if◌then◌else◌, ℕ, zero, suc, pos, negsuc, List, [], ◌∷◌, Bool, true, Option, None, Some, Contains, slice_get, bytes_eq, codes, refl}
+use Rattle.std.proofs.Common.{ap, sym, ◌∙◌, subst, arith}
 use Rattle.vl_ast.specs.declared.expressions.Sized.{Sized}
 use Rattle.vl_ast.specs.declared.expressions.Expr.{Expr}
 use Rattle.vl_ast.specs.declared.expressions.Expr.TheVariants.{Name}

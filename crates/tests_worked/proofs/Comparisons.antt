@@ -48,7 +48,9 @@ record Relates (relation : Relation) (below equal above : ℤ) : Type 0 where
   nought : Gives (Relational relation) (int8 ∷ uint8 ∷ []) Logical false (pos 0 ∷ pos 0 ∷ []) equal
   one : Gives (Relational relation) (int8 ∷ uint8 ∷ []) Logical false (pos 1 ∷ pos 0 ∷ []) above
 
-related : Relates Eq (pos 0) (pos 1) (pos 0) × Relates Ne (pos 1) (pos 0) (pos 1) × Relates Lt (pos 1) (pos 0) (pos 0) × Relates Le (pos 1) (pos 1) (pos 0) × Relates Ge (pos 0) (pos 1) (pos 1) × Relates Gt (pos 0) (pos 0) (pos 1)
+related : Relates Eq (pos 0) (pos 1) (pos 0) × Relates Ne (pos 1) (pos 0) (pos 1)
+    × Relates Lt (pos 1) (pos 0) (pos 0) × Relates Le (pos 1) (pos 1) (pos 0) × Relates Ge (pos 0) (pos 1) (pos 1)
+    × Relates Gt (pos 0) (pos 0) (pos 1)
 related = (
   record { three = refl; four = refl; five = refl; seven_halves = refl; eight_halves = refl; nine_halves = refl; minus_one = refl; nought = refl; one = refl },
   record { three = refl; four = refl; five = refl; seven_halves = refl; eight_halves = refl; nine_halves = refl; minus_one = refl; nought = refl; one = refl },
@@ -106,7 +108,9 @@ record Joins (gate : Op) (of_none of_first of_last of_both : ℤ) : Type 0 where
   last : Gives gate (int8 ∷ int8 ∷ []) Logical false (pos 0 ∷ pos 1 ∷ []) of_last
   both : Gives gate (int8 ∷ int8 ∷ []) Logical false (pos 2 ∷ negsuc 0 ∷ []) of_both
 
-joined : Joins (Logic And) (pos 0) (pos 0) (pos 0) (pos 1) × Joins (Logic Or) (pos 0) (pos 1) (pos 1) (pos 1) × Joins (Logic Nand) (pos 1) (pos 1) (pos 1) (pos 0) × Joins (Logic Nor) (pos 1) (pos 0) (pos 0) (pos 0) × Joins (Logic Xor) (pos 0) (pos 1) (pos 1) (pos 0) × Joins (Logic Nxor) (pos 1) (pos 0) (pos 0) (pos 1)
+joined : Joins (Logic And) (pos 0) (pos 0) (pos 0) (pos 1) × Joins (Logic Or) (pos 0) (pos 1) (pos 1) (pos 1)
+    × Joins (Logic Nand) (pos 1) (pos 1) (pos 1) (pos 0) × Joins (Logic Nor) (pos 1) (pos 0) (pos 0) (pos 0)
+    × Joins (Logic Xor) (pos 0) (pos 1) (pos 1) (pos 0) × Joins (Logic Nxor) (pos 1) (pos 0) (pos 0) (pos 1)
 joined = (
   record { none = refl; first = refl; last = refl; both = refl },
   record { none = refl; first = refl; last = refl; both = refl },
@@ -175,14 +179,70 @@ saturates_unsigned = (
   record { rounded = negsuc 0; rounds = record { at_most = le_z_yes tt; next_above = lt_z_yes tt }; settles = record { inside = λ h. absurd h.low.le; below = λ h. refl; above = λ h. absurd h.lt } },
 )
 
-wraps : Wrapped int8 (pos 127) (pos 127) × Wrapped int8 (pos 128) (negsuc 127) × Wrapped int8 (negsuc 127) (negsuc 127) × Wrapped int8 (negsuc 128) (pos 127) × Wrapped uint8 (pos 256) (pos 0) × Wrapped uint8 (negsuc 0) (pos 255)
+wraps : Wrapped int8 (pos 127) (pos 127) × Wrapped int8 (pos 128) (negsuc 127)
+    × Wrapped int8 (negsuc 127) (negsuc 127) × Wrapped int8 (negsuc 128) (pos 127) × Wrapped uint8 (pos 256) (pos 0)
+    × Wrapped uint8 (negsuc 0) (pos 255)
 wraps = (
-  record { rounded = pos 127; rounds = record { at_most = le_z_yes tt; next_above = lt_z_yes tt }; settles = record { in_word = record { low = le_z_yes tt; high = le_z_yes tt }; congruent = record { turns = pos 0; equal = refl } } },
-  record { rounded = pos 128; rounds = record { at_most = le_z_yes tt; next_above = lt_z_yes tt }; settles = record { in_word = record { low = le_z_yes tt; high = le_z_yes tt }; congruent = record { turns = negsuc 0; equal = refl } } },
-  record { rounded = negsuc 127; rounds = record { at_most = le_z_yes tt; next_above = lt_z_yes tt }; settles = record { in_word = record { low = le_z_yes tt; high = le_z_yes tt }; congruent = record { turns = pos 0; equal = refl } } },
-  record { rounded = negsuc 128; rounds = record { at_most = le_z_yes tt; next_above = lt_z_yes tt }; settles = record { in_word = record { low = le_z_yes tt; high = le_z_yes tt }; congruent = record { turns = pos 1; equal = refl } } },
-  record { rounded = pos 256; rounds = record { at_most = le_z_yes tt; next_above = lt_z_yes tt }; settles = record { in_word = record { low = le_z_yes tt; high = le_z_yes tt }; congruent = record { turns = negsuc 0; equal = refl } } },
-  record { rounded = negsuc 0; rounds = record { at_most = le_z_yes tt; next_above = lt_z_yes tt }; settles = record { in_word = record { low = le_z_yes tt; high = le_z_yes tt }; congruent = record { turns = pos 1; equal = refl } } },
+  record {
+    rounded = pos 127;
+    rounds = record { at_most = le_z_yes tt; next_above = lt_z_yes tt };
+    settles =
+        record {
+          in_word = record { low = le_z_yes tt; high = le_z_yes tt };
+          congruent =
+              record { turns = pos 0; equal = refl };
+        };
+  },
+  record {
+    rounded = pos 128;
+    rounds = record { at_most = le_z_yes tt; next_above = lt_z_yes tt };
+    settles =
+        record {
+          in_word = record { low = le_z_yes tt; high = le_z_yes tt };
+          congruent =
+              record { turns = negsuc 0; equal = refl };
+        };
+  },
+  record {
+    rounded = negsuc 127;
+    rounds = record { at_most = le_z_yes tt; next_above = lt_z_yes tt };
+    settles =
+        record {
+          in_word = record { low = le_z_yes tt; high = le_z_yes tt };
+          congruent =
+              record { turns = pos 0; equal = refl };
+        };
+  },
+  record {
+    rounded = negsuc 128;
+    rounds = record { at_most = le_z_yes tt; next_above = lt_z_yes tt };
+    settles =
+        record {
+          in_word = record { low = le_z_yes tt; high = le_z_yes tt };
+          congruent =
+              record { turns = pos 1; equal = refl };
+        };
+  },
+  record {
+    rounded = pos 256;
+    rounds = record { at_most = le_z_yes tt; next_above = lt_z_yes tt };
+    settles =
+        record {
+          in_word = record { low = le_z_yes tt; high = le_z_yes tt };
+          congruent =
+              record { turns = negsuc 0; equal = refl };
+        };
+  },
+  record {
+    rounded = negsuc 0;
+    rounds = record { at_most = le_z_yes tt; next_above = lt_z_yes tt };
+    settles =
+        record {
+          in_word = record { low = le_z_yes tt; high = le_z_yes tt };
+          congruent =
+              record { turns = pos 1; equal = refl };
+        };
+  },
 )
 
 -- ---- the ends of what is a type
@@ -194,7 +254,8 @@ widest = (
   ((lit≤ tt, lit≤ tt), le_z_yes tt, le_z_yes tt),
 )
 
-no_types : (¬ IsType (Num true 1 (pos 0))) × (¬ IsType (Num true 129 (pos 0))) × (¬ IsType (Num false 0 (pos 0))) × (¬ IsType (Num false 128 (pos 0))) × (¬ IsType (Num true 8 (negsuc 64))) × (¬ IsType (Num true 8 (pos 129)))
+no_types : (¬ IsType (Num true 1 (pos 0))) × (¬ IsType (Num true 129 (pos 0))) × (¬ IsType (Num false 0 (pos 0)))
+    × (¬ IsType (Num false 128 (pos 0))) × (¬ IsType (Num true 8 (negsuc 64))) × (¬ IsType (Num true 8 (pos 129)))
 no_types = (
   λ is. absurd (omega (arith, is.0.0)),
   λ is. absurd (omega (arith, is.0.1)),

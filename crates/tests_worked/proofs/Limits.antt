@@ -60,7 +60,8 @@ edge_of from to = record { from = from; from_port = 1; to = to; to_port = 1 }
 -- two inputs, the first of which three outputs show
 abbrev shown : Diagram
 shown = record {
-  blocks = block_of (Inport 1 0) 0 1 Inherit ∷ block_of (Inport 2 0) 0 1 Inherit ∷ block_of (Outport 1) 1 0 Inherit ∷ block_of (Outport 2) 1 0 Inherit ∷ block_of (Outport 3) 1 0 Inherit ∷ block_of (Outport 4) 1 0 Inherit ∷ [];
+  blocks = block_of (Inport 1 0) 0 1 Inherit ∷ block_of (Inport 2 0) 0 1 Inherit ∷ block_of (Outport 1) 1 0 Inherit
+      ∷ block_of (Outport 2) 1 0 Inherit ∷ block_of (Outport 3) 1 0 Inherit ∷ block_of (Outport 4) 1 0 Inherit ∷ [];
   edges = edge_of 0 2 ∷ edge_of 0 3 ∷ edge_of 0 4 ∷ edge_of 1 5 ∷ [];
 }
 
@@ -89,10 +90,14 @@ too_long (times, few, whole) = past times few whole where
   past times few whole = omega (arith, few, whole)
 
 -- a source suits a block: the periods are one, or one divides the other where the block joins two
-suited : (suits false (Some 2) (Some 2) ≡ true) × (suits false (Some 4) (Some 2) ≡ false) × (suits false (Some 2) (Some 4) ≡ false) × (suits false (Some 2) None ≡ true) × (suits false None (Some 2) ≡ false)
+suited : (suits false (Some 2) (Some 2) ≡ true) × (suits false (Some 4) (Some 2) ≡ false)
+    × (suits false (Some 2) (Some 4) ≡ false) × (suits false (Some 2) None ≡ true)
+    × (suits false None (Some 2) ≡ false)
 suited = (refl, refl, refl, refl, refl)
 
-joined : (suits true (Some 4) (Some 2) ≡ true) × (suits true (Some 2) (Some 4) ≡ true) × (suits true (Some 2) (Some 2) ≡ true) × (suits true (Some 4) (Some 6) ≡ false) × (suits true (Some 6) (Some 4) ≡ false) × (suits true None (Some 2) ≡ false)
+joined : (suits true (Some 4) (Some 2) ≡ true) × (suits true (Some 2) (Some 4) ≡ true)
+    × (suits true (Some 2) (Some 2) ≡ true) × (suits true (Some 4) (Some 6) ≡ false)
+    × (suits true (Some 6) (Some 4) ≡ false) × (suits true None (Some 2) ≡ false)
 joined = (refl, refl, refl, refl, refl, refl)
 
 slow_to_fast : (is_slow_to_fast (Some 3) (Some 2) ≡ true) × (is_slow_to_fast (Some 2) (Some 2) ≡ false) × (is_slow_to_fast (Some 1) (Some 2) ≡ false) × (is_slow_to_fast None (Some 2) ≡ false)

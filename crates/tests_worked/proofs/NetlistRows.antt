@@ -1,5 +1,6 @@
 -- The rows of the netlist over six clocks, two of which make a base sample, by hand.
-use Rattle.std.proofs.Common.{◌≡◌, ◌≢◌, ℕ, zero, suc, ◌+◌, ◌-◌, ◌%◌, ◌≤◌, ◌<◌, ℤ, pos, negsuc, ◌*ℤ◌, ◌+ℤ◌, ◌^◌, Bool, true, false, true≢false, ◌&&◌, if◌then◌else◌, List, [], ◌∷◌, get_or, refl, sym, subst, arith}
+use Rattle.std.proofs.Common.{◌≡◌, ◌≢◌, ℕ, zero, suc, ◌+◌, ◌-◌, ◌%◌, ◌≤◌, ◌<◌, ℤ, pos, negsuc, ◌*ℤ◌, ◌+ℤ◌, ◌^◌, Bool, true, false, true≢false, ◌&&◌, if◌then◌else◌, List, [], ◌∷◌, get_or, refl, sym}
+use Rattle.std.proofs.Common.{subst, arith}
 use Rattle.std.specs.Prelude.{◌==◌}
 use Rattle.std.proofs.Math.Dec.{T, lit<, lit≤}
 use Rattle.std.proofs.lemmas.Bool.{and_parts}
@@ -67,7 +68,8 @@ five P a b c d e (suc (suc (suc zero))) below = d
 five P a b c d e (suc (suc (suc (suc zero)))) below = e
 five P a b c d e (suc (suc (suc (suc (suc k))))) below = absurd (omega (arith, below))
 
-wrapped : (v : ℤ) (width : ℕ) (signed : Bool) (r turns : ℤ) → T (le_z (word_lowest width signed) r) → T (le_z r (word_highest width signed)) → r ≡ v +ℤ turns *ℤ pos (2 ^ width) → IsWrapped v width signed r
+wrapped : (v : ℤ) (width : ℕ) (signed : Bool) (r turns : ℤ) → T (le_z (word_lowest width signed) r)
+    → T (le_z r (word_highest width signed)) → r ≡ v +ℤ turns *ℤ pos (2 ^ width) → IsWrapped v width signed r
 wrapped v width signed r turns low high is = record { in_word = record { low = le_z_yes low; high = le_z_yes high }; congruent = record { turns = turns; equal = is } }
 
 abbrev Shows : ℕ → Net → Type 0
@@ -122,16 +124,22 @@ taken = record {
   begins = λ some. refl;
   takes = five (λ c. Takes whole 0 c → rows 5 (c + 1) ≡ rows 4 c) (λ t. refl) (λ t. absurd (omega (arith, t.at_slot))) (λ t. refl) (λ t. absurd (omega (arith, t.at_slot))) (λ t. refl);
   keeps = five (λ c. ¬ Takes whole 0 c → rows 5 (c + 1) ≡ rows 5 c)
-      (λ not. absurd (not (record { begun = lit≤ tt; at_slot = refl }))) (λ not. refl) (λ not. absurd (not (record { begun = lit≤ tt; at_slot = refl }))) (λ not. refl) (λ not. absurd (not (record { begun = lit≤ tt; at_slot = refl })));
+      (λ not. absurd (not (record { begun = lit≤ tt; at_slot = refl }))) (λ not. refl)
+      (λ not. absurd (not (record { begun = lit≤ tt; at_slot = refl }))) (λ not. refl)
+      (λ not. absurd (not (record { begun = lit≤ tt; at_slot = refl })));
 }
 
 held : IsBridge 6 twofold 2 (rows 5) (rows 6)
 held = record {
-  before = six (λ c. c < 2 → rows 6 c ≡ rows 5 c) (λ l. refl) (λ l. refl) (λ l. absurd (omega (arith, l))) (λ l. absurd (omega (arith, l))) (λ l. absurd (omega (arith, l))) (λ l. absurd (omega (arith, l)));
+  before = six (λ c. c < 2 → rows 6 c ≡ rows 5 c) (λ l. refl) (λ l. refl) (λ l. absurd (omega (arith, l)))
+      (λ l. absurd (omega (arith, l))) (λ l. absurd (omega (arith, l))) (λ l. absurd (omega (arith, l)));
   passes = six (λ c. 2 ≤ c → (c - 2) % 4 < 2 → rows 6 c ≡ rows 5 c)
-      (λ begun l. absurd (omega (arith, begun))) (λ begun l. absurd (omega (arith, begun))) (λ begun l. refl) (λ begun l. refl) (λ begun l. absurd (omega (arith, l))) (λ begun l. absurd (omega (arith, l)));
+      (λ begun l. absurd (omega (arith, begun))) (λ begun l. absurd (omega (arith, begun))) (λ begun l. refl)
+      (λ begun l. refl) (λ begun l. absurd (omega (arith, l))) (λ begun l. absurd (omega (arith, l)));
   holds = six (λ c. 2 ≤ c → 2 ≤ (c - 2) % 4 → rows 6 c ≡ rows 5 (c - (c - 2) % 4 + 2 - 1))
-      (λ begun l. absurd (omega (arith, begun))) (λ begun l. absurd (omega (arith, begun))) (λ begun l. absurd (omega (arith, l))) (λ begun l. absurd (omega (arith, l))) (λ begun l. refl) (λ begun l. refl);
+      (λ begun l. absurd (omega (arith, begun))) (λ begun l. absurd (omega (arith, begun)))
+      (λ begun l. absurd (omega (arith, l))) (λ begun l. absurd (omega (arith, l))) (λ begun l. refl)
+      (λ begun l. refl);
 }
 
 -- with reset values, and with values that are kept
@@ -167,29 +175,37 @@ counted : IsCounter 6 whole (rows 2)
 counted = record {
   begins = λ some. refl;
   falls = five (λ c. rows 2 c ≢ pos 0 → rows 2 (c + 1) +ℤ pos 1 ≡ rows 2 c) (λ n. refl) (λ n. absurd (n refl)) (λ n. refl) (λ n. absurd (n refl)) (λ n. refl);
-  wraps = five (λ c. rows 2 c ≡ pos 0 → rows 2 (c + 1) ≡ pos 1) (λ e. absurd (omega (arith, ints, e))) (λ e. refl) (λ e. absurd (omega (arith, ints, e))) (λ e. refl) (λ e. absurd (omega (arith, ints, e)));
+  wraps = five (λ c. rows 2 c ≡ pos 0 → rows 2 (c + 1) ≡ pos 1) (λ e. absurd (omega (arith, ints, e))) (λ e. refl)
+      (λ e. absurd (omega (arith, ints, e))) (λ e. refl) (λ e. absurd (omega (arith, ints, e)));
 }
 
 counted_late : IsCounter 6 late (rows 10)
 counted_late = record {
   begins = λ some. refl;
   falls = five (λ c. rows 10 c ≢ pos 0 → rows 10 (c + 1) +ℤ pos 1 ≡ rows 10 c) (λ n. refl) (λ n. refl) (λ n. refl) (λ n. absurd (n refl)) (λ n. refl);
-  wraps = five (λ c. rows 10 c ≡ pos 0 → rows 10 (c + 1) ≡ pos 1) (λ e. absurd (omega (arith, ints, e))) (λ e. absurd (omega (arith, ints, e))) (λ e. absurd (omega (arith, ints, e))) (λ e. refl) (λ e. absurd (omega (arith, ints, e)));
+  wraps = five (λ c. rows 10 c ≡ pos 0 → rows 10 (c + 1) ≡ pos 1) (λ e. absurd (omega (arith, ints, e)))
+      (λ e. absurd (omega (arith, ints, e))) (λ e. absurd (omega (arith, ints, e))) (λ e. refl)
+      (λ e. absurd (omega (arith, ints, e)));
 }
 
 -- ---- all of it
 abbrev Fits : ℕ → Net → Type 0
 Fits k net = (c : ℕ) → c < 6 → InWord net.width net.signed (rows k c)
 
-fits : (k width : ℕ) (signed : Bool) → each_below (λ c. le_z (word_lowest width signed) (rows k c) && le_z (rows k c) (word_highest width signed)) 6 ≡ true → (c : ℕ) → c < 6 → InWord width signed (rows k c)
+fits : (k width : ℕ) (signed : Bool) → each_below
+    (λ c. le_z (word_lowest width signed) (rows k c) && le_z (rows k c) (word_highest width signed)) 6 ≡ true
+    → (c : ℕ) → c < 6 → InWord width signed (rows k c)
 fits k width signed is c below =
-    let parts = and_parts (le_z (word_lowest width signed) (rows k c)) (le_z (rows k c) (word_highest width signed)) (below_by (λ c. le_z (word_lowest width signed) (rows k c) && le_z (rows k c) (word_highest width signed)) 6 is c below) in
+    let parts = and_parts (le_z (word_lowest width signed) (rows k c)) (le_z (rows k c) (word_highest width signed))
+    (below_by (λ c. le_z (word_lowest width signed) (rows k c) && le_z (rows k c) (word_highest width signed)) 6
+    is c below) in
     record { low = le_z_yes (subst T (sym parts.0) tt); high = le_z_yes (subst T (sym parts.1) tt) }
 
 pub are_rows : NetRows (circuit nets) 6 inputs rows
 are_rows = record {
   shows = each_by Shows nets first_input second_input counted chosen multiplied taken held starts_anew goes_on less counted_late doubled;
-  in_word = each_by Fits nets (fits 0 2 true refl) (fits 1 2 true refl) (fits 2 1 false refl) (fits 3 2 true refl) (fits 4 4 true refl) (fits 5 4 true refl) (fits 6 4 true refl) (fits 7 2 true refl) (fits 8 2 true refl)
+  in_word = each_by Fits nets (fits 0 2 true refl) (fits 1 2 true refl) (fits 2 1 false refl) (fits 3 2 true refl)
+      (fits 4 4 true refl) (fits 5 4 true refl) (fits 6 4 true refl) (fits 7 2 true refl) (fits 8 2 true refl)
       (fits 9 1 false refl) (fits 10 2 false refl) (fits 11 2 true refl);
 }
 
@@ -206,11 +222,15 @@ takes_late are =
 abbrev Of : NetOp → ℤ → ℤ → ℤ → ℤ → Type 0
 Of op first second third r = given_by op (λ number. pos 0) (record { first = first; second = second; third = third }) ≡ r
 
-comparisons : Of Less (negsuc 0) (pos 0) (pos 0) (pos 1) × Of Less (pos 0) (pos 0) (pos 0) (pos 0) × Of Less (pos 1) (pos 0) (pos 0) (pos 0) × Of Equal (negsuc 0) (pos 0) (pos 0) (pos 0) × Of Equal (pos 0) (pos 0) (pos 0) (pos 1) × Of Equal (pos 1) (pos 0) (pos 0) (pos 0)
+comparisons : Of Less (negsuc 0) (pos 0) (pos 0) (pos 1) × Of Less (pos 0) (pos 0) (pos 0) (pos 0)
+    × Of Less (pos 1) (pos 0) (pos 0) (pos 0) × Of Equal (negsuc 0) (pos 0) (pos 0) (pos 0)
+    × Of Equal (pos 0) (pos 0) (pos 0) (pos 1) × Of Equal (pos 1) (pos 0) (pos 0) (pos 0)
 comparisons = (refl, refl, refl, refl, refl, refl)
 
 choices : Of Choose (pos 0) (pos 7) (pos 9) (pos 9) × Of Choose (pos 1) (pos 7) (pos 9) (pos 7) × Of Choose (negsuc 0) (pos 7) (pos 9) (pos 7) × Of Choose (pos 2) (pos 7) (pos 9) (pos 7)
 choices = (refl, refl, refl, refl)
 
-bits : Of (ShiftDown 1) (negsuc 2) (pos 0) (pos 0) (negsuc 1) × Of (ShiftDown 1) (pos 3) (pos 0) (pos 0) (pos 1) × Of Not (pos 0) (pos 0) (pos 0) (negsuc 0) × Of (Slice 2 1) (pos 13) (pos 0) (pos 0) (pos 2) × Of (Slice 0 0) (negsuc 0) (pos 0) (pos 0) (pos 1)
+bits : Of (ShiftDown 1) (negsuc 2) (pos 0) (pos 0) (negsuc 1) × Of (ShiftDown 1) (pos 3) (pos 0) (pos 0) (pos 1)
+    × Of Not (pos 0) (pos 0) (pos 0) (negsuc 0) × Of (Slice 2 1) (pos 13) (pos 0) (pos 0) (pos 2)
+    × Of (Slice 0 0) (negsuc 0) (pos 0) (pos 0) (pos 1)
 bits = (refl, refl, refl, refl, refl)

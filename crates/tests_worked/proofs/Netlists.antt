@@ -161,7 +161,34 @@ AreWord net = IsWord net.width net.signed
 pub is_netlist : IsNetlist (circuit nets)
 is_netlist = record {
   cycles = lit< tt;
-  words = all_of AreWord nets ((lit≤ tt, lit≤ tt), ((lit≤ tt, lit≤ tt), ((lit≤ tt, lit≤ tt), ((lit≤ tt, lit≤ tt), ((lit≤ tt, lit≤ tt), ((lit≤ tt, lit≤ tt), ((lit≤ tt, lit≤ tt), ((lit≤ tt, lit≤ tt), ((lit≤ tt, lit≤ tt), ((lit≤ tt, lit≤ tt), ((lit≤ tt, lit≤ tt), ((lit≤ tt, lit≤ tt), tt))))))))))));
+  words = all_of AreWord nets (
+    (lit≤ tt, lit≤ tt),
+    (
+      (lit≤ tt, lit≤ tt),
+      (
+        (lit≤ tt, lit≤ tt),
+        (
+          (lit≤ tt, lit≤ tt),
+          (
+            (lit≤ tt, lit≤ tt),
+            (
+              (lit≤ tt, lit≤ tt),
+              (
+                (lit≤ tt, lit≤ tt),
+                (
+                  (lit≤ tt, lit≤ tt),
+                  (
+                    (lit≤ tt, lit≤ tt),
+                    ((lit≤ tt, lit≤ tt), ((lit≤ tt, lit≤ tt), ((lit≤ tt, lit≤ tt), tt))),
+                  ),
+                ),
+              ),
+            ),
+          ),
+        ),
+      ),
+    ),
+  );
   kinds = kinds;
   there = there;
   ranked = (λ k. k, ranked);

@@ -1,5 +1,6 @@
 -- What instant edges lead to, by tests over the edges of a small diagram: paths, depths, what is fed, and that no cycle is there.
-use Rattle.std.proofs.Common.{◌≡◌, ℕ, zero, suc, ◌+◌, ◌-◌, ◌%◌, ◌≤◌, ◌<◌, Bool, true, false, true≢false, cond, ◌&&◌, List, [], ◌∷◌, length, get_or, Option, Some, None, slice_get, inl, inr, refl, sym, ap, subst, ◌∙◌, arith}
+use Rattle.std.proofs.Common.{◌≡◌, ℕ, zero, suc, ◌+◌, ◌-◌, ◌%◌, ◌≤◌, ◌<◌, Bool, true, false, true≢false, cond, ◌&&◌, List, [], ◌∷◌, length, get_or, Option, Some, None, slice_get, inl, inr, refl, sym}
+use Rattle.std.proofs.Common.{ap, subst, ◌∙◌, arith}
 use Rattle.std.specs.Prelude.{◌==◌, count_by, nat_le, slice_index}
 use Rattle.std.specs.List.{list_all, list_any}
 use Rattle.std.proofs.Math.Nat.{mod_self, mod-eq_of_lt}
@@ -51,7 +52,9 @@ module _ (diagram : Diagram) (attributes : Attributes) where
 
   leads_now : (from to : ℕ) → list_any (leads_by from to) (latency_edges diagram) ≡ true → LeadsNow diagram attributes from to
   leads_now from to is = by (Any-from_list_any (leads_by from to) (latency_edges diagram) is) where
-    by : (k : ℕ) × (edge : LatencyEdge) × (k < length (latency_edges diagram)) × (◌≡◌ {A = LatencyEdge} (get_or (latency_edges diagram) k edge) edge) × (leads_by from to edge ≡ true) → LeadsNow diagram attributes from to
+    by : (k : ℕ) × (edge : LatencyEdge) × (k < length (latency_edges diagram))
+        × (◌≡◌ {A = LatencyEdge} (get_or (latency_edges diagram) k edge) edge) × (leads_by from to edge ≡ true)
+        → LeadsNow diagram attributes from to
     by (k, edge, below, at, holds) =
         let parts = and_parts ((edge.from == from) && (edge.to == to)) (is_instant diagram attributes edge) holds in
         let ends = and_parts (edge.from == from) (edge.to == to) parts.0 in
@@ -97,7 +100,9 @@ module _ (diagram : Diagram) (attributes : Attributes) where
 
   -- what weighs one each: those that a path counts are no more than its last is high
   module _ (height : ℕ → ℕ) (counts : ℕ → Bool) (all : is_rising height (λ x. one_if (counts x)) ≡ true) (own : (x : ℕ) → one_if (counts x) ≤ height x) where
-    later : (x : ℕ) (path : List ℕ) (last place : ℕ) → IsInstantPath diagram attributes (x ∷ path) → length (x ∷ path) ≡ suc last → slice_get (x ∷ path) last ≡ Some place → count_by counts path + height x ≤ height place
+    later : (x : ℕ) (path : List ℕ) (last place : ℕ) → IsInstantPath diagram attributes (x ∷ path)
+        → length (x ∷ path) ≡ suc last → slice_get (x ∷ path) last ≡ Some place
+        → count_by counts path + height x ≤ height place
     later x [] last place leads size ends =
         let none : last ≡ 0 = omega (arith, size) in
         let same : x ≡ place = same_Some x place (sym (ap (λ (k : ℕ). slice_get (x ∷ []) k) none) ∙ ends) in
@@ -200,12 +205,17 @@ module _ (diagram : Diagram) (attributes : Attributes) where
         rising zero below = omega arith
         rising (suc k) below =
             let next : height (slice_index cycle k) + 1 ≤ height (slice_index cycle (suc k)) =
-            subst (λ (i : ℕ). height (slice_index cycle k) + 1 ≤ height (slice_index cycle i)) (mod-eq_of_lt below) (rises height (λ x. 1) all (slice_index cycle k) (slice_index cycle (suc k % length cycle)) (is.leads k (omega (arith, below)))) in
+            subst (λ (i : ℕ). height (slice_index cycle k) + 1 ≤ height (slice_index cycle i)) (mod-eq_of_lt below)
+            (rises height (λ x. 1) all (slice_index cycle k) (slice_index cycle (suc k % length cycle))
+            (is.leads k (omega (arith, below)))) in
             omega (arith, next, rising k (omega (arith, below)))
 
         ends : height (slice_index cycle 0) + last ≤ height (slice_index cycle last) → LeadsNow diagram attributes (slice_index cycle last) (slice_index cycle (suc last % length cycle)) → ⊥
         ends far leads =
             let whole : suc last ≡ length cycle = omega (arith, is.some) in
             let round : suc last % length cycle ≡ 0 = ap (λ (m : ℕ). m % length cycle) whole ∙ mod_self (length cycle) in
-            let less : height (slice_index cycle last) + 1 ≤ height (slice_index cycle 0) = subst (λ (i : ℕ). height (slice_index cycle last) + 1 ≤ height (slice_index cycle i)) round (rises height (λ x. 1) all (slice_index cycle last) (slice_index cycle (suc last % length cycle)) leads) in
+            let less : height (slice_index cycle last) + 1 ≤ height (slice_index cycle 0) =
+            subst (λ (i : ℕ). height (slice_index cycle last) + 1 ≤ height (slice_index cycle i)) round
+            (rises height (λ x. 1) all (slice_index cycle last)
+            (slice_index cycle (suc last % length cycle)) leads) in
             omega (arith, far, less)

@@ -58,7 +58,9 @@ short_enough = record {
 too_long : BreaksSize slow (slow_plan 1) shared (fault_of Rule.Size [] (Size 68 16777217))
 too_long = record {
   broken = inr (subst (λ (a : Attributes). 16777216 < greatest_latency slow a (slow_plan 1) shared) (sym slow_known) (lit< tt));
-  fault_is = subst (λ (a : Attributes). fault_of Rule.Size [] (Size 68 16777217) ≡ fault_of Rule.Size [] (Size (storage slow a (slow_plan 1) shared) (greatest_latency slow a (slow_plan 1) shared))) (sym slow_known) refl;
+  fault_is = subst (λ (a : Attributes). fault_of Rule.Size [] (Size 68 16777217)
+      ≡ fault_of Rule.Size [] (Size (storage slow a (slow_plan 1) shared)
+      (greatest_latency slow a (slow_plan 1) shared))) (sym slow_known) refl;
 }
 
 -- ---- storage: 400 elements through a Delay by 998 are 399600 registers and 400 behind it; one more line is one too many
@@ -108,7 +110,9 @@ few_enough = record {
 too_many : BreaksSize wider no_registers none_late (fault_of Rule.Size [] (Size 400001 0))
 too_many = record {
   broken = inl (subst (λ (a : Attributes). 400000 < storage wider a no_registers none_late) (sym wider_known) (lit< tt));
-  fault_is = subst (λ (a : Attributes). fault_of Rule.Size [] (Size 400001 0) ≡ fault_of Rule.Size [] (Size (storage wider a no_registers none_late) (greatest_latency wider a no_registers none_late))) (sym wider_known) refl;
+  fault_is = subst (λ (a : Attributes). fault_of Rule.Size [] (Size 400001 0)
+      ≡ fault_of Rule.Size [] (Size (storage wider a no_registers none_late)
+      (greatest_latency wider a no_registers none_late))) (sym wider_known) refl;
 }
 
 -- ---- what a block keeps: a Delay by 5 of a value that never changes its own 5, one of an input none, and one in an enabled subsystem its own 5

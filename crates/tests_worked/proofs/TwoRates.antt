@@ -1,4 +1,6 @@
--- A design of two rates, worked by hand: P = a * b and Q = P * b in each base sample, R takes Q into every other one, and there S = R * D with D = S a hit before. Outputs y = S and z = D. All signals have three elements. Two multipliers serve each kind.
+-- A design of two rates, worked by hand: P = a * b and Q = P * b in each base sample, R takes Q into every other
+-- one, and there S = R * D with D = S a hit before. Outputs y = S and z = D. All signals have three elements. Two
+-- multipliers serve each kind.
 use Rattle.std.proofs.Common.{◌≡◌, ℕ, Bool, true, false, List, [], ◌∷◌, Some, None, codes, refl}
 use Rattle.std.proofs.Math.Dec.{lit<}
 use Rattle.fx_type.specs.declared.decimal.Decimal.{Decimal}

@@ -91,7 +91,9 @@ record IsServed (plan : Resolved) (timing : Timing) (block first : ℕ) (slot un
   unit_of_second : unit_of diagram attributes plan timing (first + 1) (operation block 1) ≡ slice_index units 1
   unit_of_third : unit_of diagram attributes plan timing (first + 2) (operation block 2) ≡ slice_index units 2
 
-served : IsServed (plan_in 5) timing 2 0 (0 ∷ 0 ∷ 1 ∷ []) (0 ∷ 1 ∷ 0 ∷ []) × IsServed (plan_in 5) timing 3 3 (2 ∷ 2 ∷ 3 ∷ []) (0 ∷ 1 ∷ 0 ∷ []) × IsServed (plan_in 5) timing 6 6 (5 ∷ 5 ∷ 6 ∷ []) (2 ∷ 3 ∷ 2 ∷ [])
+served : IsServed (plan_in 5) timing 2 0 (0 ∷ 0 ∷ 1 ∷ []) (0 ∷ 1 ∷ 0 ∷ [])
+    × IsServed (plan_in 5) timing 3 3 (2 ∷ 2 ∷ 3 ∷ []) (0 ∷ 1 ∷ 0 ∷ [])
+    × IsServed (plan_in 5) timing 6 6 (5 ∷ 5 ∷ 6 ∷ []) (2 ∷ 3 ∷ 2 ∷ [])
 served = (
   record { slot_of_first = refl; slot_of_second = refl; slot_of_third = refl; unit_of_first = refl; unit_of_second = refl; unit_of_third = refl },
   record { slot_of_first = refl; slot_of_second = refl; slot_of_third = refl; unit_of_first = refl; unit_of_second = refl; unit_of_third = refl },
@@ -102,7 +104,9 @@ served = (
 abbrev apart : Timing
 apart = record { lat = 0 ∷ 0 ∷ 0 ∷ 1 ∷ 1 ∷ 1 ∷ 1 ∷ 1 ∷ 1 ∷ []; fed = timing.fed; depths = timing.depths }
 
-served_apart : IsServed (plan_of 5 2 1 0 0) apart 2 0 (0 ∷ 0 ∷ 1 ∷ []) (0 ∷ 1 ∷ 0 ∷ []) × IsServed (plan_of 5 2 1 0 0) apart 3 3 (2 ∷ 2 ∷ 3 ∷ []) (2 ∷ 3 ∷ 2 ∷ []) × IsServed (plan_of 5 2 1 0 0) apart 6 6 (5 ∷ 5 ∷ 6 ∷ []) (4 ∷ 5 ∷ 4 ∷ [])
+served_apart : IsServed (plan_of 5 2 1 0 0) apart 2 0 (0 ∷ 0 ∷ 1 ∷ []) (0 ∷ 1 ∷ 0 ∷ [])
+    × IsServed (plan_of 5 2 1 0 0) apart 3 3 (2 ∷ 2 ∷ 3 ∷ []) (2 ∷ 3 ∷ 2 ∷ [])
+    × IsServed (plan_of 5 2 1 0 0) apart 6 6 (5 ∷ 5 ∷ 6 ∷ []) (4 ∷ 5 ∷ 4 ∷ [])
 served_apart = (
   record { slot_of_first = refl; slot_of_second = refl; slot_of_third = refl; unit_of_first = refl; unit_of_second = refl; unit_of_third = refl },
   record { slot_of_first = refl; slot_of_second = refl; slot_of_third = refl; unit_of_first = refl; unit_of_second = refl; unit_of_third = refl },
@@ -141,7 +145,9 @@ is_plan = record {
     each = each_by MayIfSome diagram.blocks
         (λ some. absurd (omega (arith, some))) (λ some. absurd (omega (arith, some))) (λ some. absurd (omega (arith, some)))
         (λ some. may (product (codes "Q")) (record { kind = refl; period = refl }))
-        (λ some. absurd (omega (arith, some))) (λ some. absurd (omega (arith, some))) (λ some. absurd (omega (arith, some))) (λ some. absurd (omega (arith, some))) (λ some. absurd (omega (arith, some)));
+        (λ some. absurd (omega (arith, some))) (λ some. absurd (omega (arith, some)))
+        (λ some. absurd (omega (arith, some))) (λ some. absurd (omega (arith, some)))
+        (λ some. absurd (omega (arith, some)));
   };
 }
 

@@ -32,7 +32,31 @@ output_readable path number low high = record { ports = (refl, refl); parameters
 
 readable : All IsReadable blocks
 readable =
-    all_of IsReadable blocks (input_readable (codes "a") 1 (lit≤ tt) (lit≤ tt), (input_readable (codes "b") 2 (lit≤ tt) (lit≤ tt), (product_readable (codes "P"), (product_readable (codes "Q"), (transition_readable, (delay_readable, (product_readable (codes "S"), (output_readable (codes "y") 1 (lit≤ tt) (lit≤ tt), (output_readable (codes "z") 2 (lit≤ tt) (lit≤ tt), tt)))))))))
+    all_of IsReadable blocks (
+      input_readable (codes "a") 1 (lit≤ tt) (lit≤ tt),
+      (
+        input_readable (codes "b") 2 (lit≤ tt) (lit≤ tt),
+        (
+          product_readable (codes "P"),
+          (
+            product_readable (codes "Q"),
+            (
+              transition_readable,
+              (
+                delay_readable,
+                (
+                  product_readable (codes "S"),
+                  (
+                    output_readable (codes "y") 1 (lit≤ tt) (lit≤ tt),
+                    (output_readable (codes "z") 2 (lit≤ tt) (lit≤ tt), tt),
+                  ),
+                ),
+              ),
+            ),
+          ),
+        ),
+      ),
+    )
 
 -- ---- loops: all lines but the one into D, which reads before, lead to later blocks
 loops : KeepsLoop diagram (attributes_of diagram)

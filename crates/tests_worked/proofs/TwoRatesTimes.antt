@@ -96,7 +96,9 @@ pub record SharesAll (plan : Resolved) : Type 0 where
   pub on_outputs : (shared_on diagram attributes plan (Some 2) (6 ∷ 7 ∷ []) ≡ 1) × (shared_on diagram attributes plan (Some 2) (8 ∷ []) ≡ 0)
 
 module _ (plan : Resolved) (all : SharesAll plan) where
-  fed_from : (path : List ℕ) (source place last : ℕ) → is_path diagram attributes path ≡ true → slice_get path 0 ≡ Some source → slice_get path last ≡ Some place → is_shared diagram attributes plan source ≡ true → IsFed diagram attributes plan place
+  fed_from : (path : List ℕ) (source place last : ℕ) → is_path diagram attributes path ≡ true
+      → slice_get path 0 ≡ Some source → slice_get path last ≡ Some place
+      → is_shared diagram attributes plan source ≡ true → IsFed diagram attributes plan place
   fed_from path source place last is begins ends shared =
       record { source = source; cone = record { path = path; leads = path_by diagram attributes path is; begins = begins; last = last; ends = ends }; shared = shared }
 
@@ -134,7 +136,8 @@ module _ (plan : Resolved) (all : SharesAll plan) where
   are_depths = record { size = refl; are = deep }
 
   -- with latencies that are least for its arcs
-  pub timed_by : (lat : List ℕ) (own : List Arc) → length lat ≡ 9 → arcs_with diagram attributes plan fed ≡ own → IsLeast own lat → IsTimingOf diagram plan (record { lat = lat; fed = fed; depths = depths })
+  pub timed_by : (lat : List ℕ) (own : List Arc) → length lat ≡ 9 → arcs_with diagram attributes plan fed ≡ own
+      → IsLeast own lat → IsTimingOf diagram plan (record { lat = lat; fed = fed; depths = depths })
   timed_by lat own size is least = record {
     fed = subst (λ (a : Attributes). AreFed diagram a plan fed) (sym known) are_fed;
     depths = subst (λ (a : Attributes). AreDepths diagram a plan depths) (sym known) are_depths;

@@ -1,5 +1,6 @@
 -- Two lists of rows that run from one start over one list of inputs give each declared name the same bits.
-use Rattle.std.proofs.Common.{◌≡◌, ◌≢◌, ◌<◌, ◌+◌, ⊎_elim, ℕ, zero, suc, Bool, true, false, not, ◌&&◌, if◌then◌else◌, nat_le, ◌==◌, List, ◌++◌, Contains, bytes_eq, codes, Option, Some, None, refl, sym, ap, subst, ◌∙◌, arith}
+use Rattle.std.proofs.Common.{◌≡◌, ◌≢◌, ◌<◌, ◌+◌, ⊎_elim, ℕ, zero, suc, Bool, true, false, not, ◌&&◌, if◌then◌else◌, nat_le, ◌==◌, List, ◌++◌, Contains, bytes_eq, codes, Option, Some, None, refl, sym}
+use Rattle.std.proofs.Common.{ap, subst, ◌∙◌, arith}
 use Rattle.std.specs.List.{list_any}
 use Rattle.std.proofs.lemmas.List.Folds.{Any-from_list_any}
 use Rattle.std.proofs.lemmas.List.Elements.{Contains-append_left, Contains-append_right}
@@ -19,7 +20,8 @@ use Rattle.vl_ast.specs.Control.{is_bit_input}
 use Rattle.vl_ast.specs.Room.{AreSame}
 use Rattle.vl_ast.proofs.Agree.{ByLayer, values-agree}
 use Rattle.vl_ast.proofs.Chains.{owed-of-none}
-use Rattle.vl_ast.proofs.Facts.{has-driver, read-declared, in-port, Driver, ByAssign, ByAlways, driver-of, reads-of-assign, reads-of-always, Declaration, OfPort, OfWire, OfReg, declaration-by, listed-mention, reg-declared}
+use Rattle.vl_ast.proofs.Facts.{has-driver, read-declared, in-port, Driver, ByAssign, ByAlways, driver-of, reads-of-assign, reads-of-always, Declaration, OfPort, OfWire, OfReg, declaration-by}
+use Rattle.vl_ast.proofs.Facts.{listed-mention, reg-declared}
 use Rattle.vl_ast.proofs.OneRun.{assigned-agree, may-not, differs}
 
 -- the port of `reset`, where condition five holds
@@ -93,7 +95,10 @@ module _ (by_layer : ByLayer) (m : Module) (driven : undriven m ≡ None) (once 
         (λ (found : (x : List ℕ) × Contains (names_read value) x × (rows k x ≢ other k x)).
         let d = read-declared m driven once found.0 (reads-of-assign m driven once name found.0 value h found.1) in
         (found.0, record { value = value; assigned = h; reads = found.1 }, record { declared = d.0; there = d.1; named = d.2; apart = found.2 }))
-        (λ (same : (x : List ℕ) → Contains (names_read value) x → rows k x ≡ other k x). absurd (apart (one.assigns k below name value h ∙ assigned-agree by_layer m driven once none (rows k) (other k) (nets_of m name).width value same ∙ sym (two.assigns k below name value h))))
+        (λ (same : (x : List ℕ) → Contains (names_read value) x → rows k x ≡ other k x). absurd
+        (apart (one.assigns k below name value h
+        ∙ assigned-agree by_layer m driven once none (rows k) (other k) (nets_of m name).width value same
+        ∙ sym (two.assigns k below name value h))))
         (differs (rows k) (other k) (names_read value))
 
     owed : (k : ℕ) → k < count → SameStates k → (j : ℕ) (name : List ℕ) → Differs k name → (next : List ℕ) × AssignmentReads m name next × Differs k next
@@ -126,7 +131,9 @@ module _ (by_layer : ByLayer) (m : Module) (driven : undriven m ≡ None) (once 
     same-reset : (k : ℕ) → SameAt k → rows k (codes "reset") ≡ other k (codes "reset")
     same-reset k same = let p = reset-port m clocked in subst (λ n. rows k n ≡ other k n) p.2 (same (port_declared p.0) (in-port m driven once p.0 p.1))
 
-    takes-same : (k : ℕ) (condition : Option Expr) → ((x : List ℕ) → Contains (condition_names condition) x → rows k x ≡ other k x) → takes_value m (rows k) condition ≡ takes_value m (other k) condition
+    takes-same : (k : ℕ) (condition : Option Expr)
+        → ((x : List ℕ) → Contains (condition_names condition) x → rows k x ≡ other k x)
+        → takes_value m (rows k) condition ≡ takes_value m (other k) condition
     takes-same k None same = refl
     takes-same k (Some e) same = ap (λ v. not (v == 0)) (values-agree by_layer (nets_of m) (rows k) (other k) e (own_length (nets_of m) e) (is_signed (nets_of m) e) same)
 
@@ -136,7 +143,8 @@ module _ (by_layer : ByLayer) (m : Module) (driven : undriven m ≡ None) (once 
         let read : (x : List ℕ) → Contains (condition_names condition ++ names_read value) x → rows k x ≡ other k x =
         λ x c. same-read k same x (reads-of-always m driven once name x first condition value h c) in
         let takes = takes-same k condition (λ x c. read x (Contains-append_left (condition_names condition) (names_read value) x c)) in
-        let gives = assigned-agree by_layer m driven once none (rows k) (other k) (nets_of m name).width value (λ x c. read x (Contains-append_right (condition_names condition) (names_read value) x c)) in
+        let gives = assigned-agree by_layer m driven once none (rows k) (other k) (nets_of m name).width value
+        (λ x c. read x (Contains-append_right (condition_names condition) (names_read value) x c)) in
         let reset = same-reset k same in
         joined (assigned_number (nets_of m name).width first) reset takes gives here
       where

@@ -1,5 +1,6 @@
 -- A module to which `clk_enable` and `ce_out` are added keeps the fourth and the sixth condition.
-use Rattle.std.proofs.Common.{◌≡◌, ℕ, Bool, true, false, not, ◌&&◌, ◌||◌, if◌then◌else◌, ◌==◌, List, [], ◌∷◌, ◌++◌, map, find, Contains, codes, Option, Some, None, option_map, is_none, refl, sym, ap, subst, ◌∙◌}
+use Rattle.std.proofs.Common.{◌≡◌, ℕ, Bool, true, false, not, ◌&&◌, ◌||◌, if◌then◌else◌, ◌==◌, List, [], ◌∷◌, ◌++◌, map, find, Contains, codes, Option, Some, None, option_map, is_none, refl, sym, ap}
+use Rattle.std.proofs.Common.{subst, ◌∙◌}
 use Rattle.std.proofs.lemmas.List.{append_assoc, append-nil, map-append}
 use Rattle.std.proofs.lemmas.List.Elements.{Contains-append_left, Contains-append_right}
 use Rattle.vl_ast.specs.declared.expressions.Expr.{Expr}
@@ -170,7 +171,8 @@ module _ (by_layer : ByLayer) (m o : Module) (small : IsAcyclic m) (fresh : IsFr
       ap (λ t. not (t && true && true && true) && (is_none (period_of (bit_output out)) || is_none (latency_of (bit_output out)))) s in
       let ports : find (lacks_attribute (is_stallable o)) o.ports ≡ None =
       ap (find (lacks_attribute (is_stallable o))) opened.ports
-      ∙ none-two (lacks_attribute (is_stallable o)) opened.front opened.middle opened.back (bit_input enable) (bit_output out) x y (subst (λ ps. find (lacks_attribute (is_stallable o)) ps ≡ None) opened.were same) in
+      ∙ none-two (lacks_attribute (is_stallable o)) opened.front opened.middle opened.back (bit_input enable)
+      (bit_output out) x y (subst (λ ps. find (lacks_attribute (is_stallable o)) ps ≡ None) opened.were same) in
       (λ i. if cycles i then Some o.name else option_map (λ (port : Port). port.name) (ports i))
 
 pub opened-breaks-none : (by_layer : ByLayer) (m o : Module) → BreaksNone m → IsFresh m → IsOpened m o → BreaksNone o

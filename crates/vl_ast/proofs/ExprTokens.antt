@@ -140,7 +140,19 @@ module _ (nets : List ℕ → Net) where
       let most = k.most in
       record {
         some = omega (arith, order);
-        writable = (name-writable name k.identifier, (sign-writable (codes "["), (number-writable high (omega (arith, below, most)), (sign-writable (codes ":"), (number-writable low (omega (arith, order, below, most)), (sign-writable (codes "]"), tt))))));
+        writable = (
+          name-writable name k.identifier,
+          (
+            sign-writable (codes "["),
+            (
+              number-writable high (omega (arith, below, most)),
+              (
+                sign-writable (codes ":"),
+                (number-writable low (omega (arith, order, below, most)), (sign-writable (codes "]"), tt)),
+              ),
+            ),
+          ),
+        );
       }
   step (Expr-F.Literal number) sound short filled known = (let l = literal-of number sound in record { some = l.some; writable = (l.writable, tt) })
   step (Expr-F.Concat []) sound short filled known = absurd (cc filled)
@@ -157,7 +169,18 @@ module _ (nets : List ℕ → Net) where
       let few : count ≤ count * own_length nets part.0 = le-mul_of_pos_right count p.some in
       record {
         some = one-le-mul some p.some;
-        writable = (sign-writable (codes "{"), (number-writable count (omega (arith, few, short)), (sign-writable (codes "{"), AllWritable-append _ (Sign (codes "}") ∷ Sign (codes "}") ∷ []) p.writable (sign-writable (codes "}"), (sign-writable (codes "}"), tt)))));
+        writable = (
+          sign-writable (codes "{"),
+          (
+            number-writable count (omega (arith, few, short)),
+            (
+              sign-writable (codes "{"),
+              AllWritable-append _
+                  (Sign (codes "}") ∷ Sign (codes "}") ∷ []) p.writable
+                  (sign-writable (codes "}"), (sign-writable (codes "}"), tt)),
+            ),
+          ),
+        );
       }
   step (Expr-F.AsSigned part) sound short filled known =
       (let p = part.1 sound filled known in record { some = p.some; writable = (key-writable (codes "$signed"), (sign-writable (codes "("), bracketed (codes ")") _ p.writable)) })
@@ -207,7 +230,10 @@ module _ (nets : List ℕ → Net) where
       let x : Expr-F Expr = map-Expr Part Expr (λ p. p.0) y in
       let e : Expr = roll-Expr x in
       let sound = left_true (para-Expr Bool (is_sound_step nets) (roll-Expr x)) (nat_le (own_length nets (roll-Expr x)) 128) narrow in
-      let short : own_length nets (roll-Expr x) ≤ 128 = leb-true (own_length nets (roll-Expr x)) 128 (right_true (para-Expr Bool (is_sound_step nets) (roll-Expr x)) (nat_le (own_length nets (roll-Expr x)) 128) narrow) in
+      let short : own_length nets (roll-Expr x) ≤ 128 =
+      leb-true (own_length nets (roll-Expr x)) 128
+      (right_true (para-Expr Bool (is_sound_step nets) (roll-Expr x))
+      (nat_le (own_length nets (roll-Expr x)) 128) narrow) in
       let long = own_length-roll nets x in
       let got = step y (sym (para-roll-Expr Bool (is_sound_step nets) x) ∙ sound) (subst (λ (n : ℕ). n ≤ 128) long short) (sym (fold-roll-Expr Bool is_filled_step x) ∙ filled)
       (subst (λ (names : List (List ℕ)). AreKnown names) (fold-roll-Expr (List (List ℕ)) names_step x) known) in

@@ -1,6 +1,7 @@
 -- What the first two conditions give: each name has one declaration and one driver of its kind, and
 -- what is read is declared.
-use Rattle.std.proofs.Common.{◌≡◌, ◌<◌, length, slice_index_or, ⊎_elim, ℕ, Bool, true, false, not, ◌&&◌, if◌then◌else◌, List, [], ◌∷◌, ◌++◌, map, flat_map, find, Contains, bytes_eq, Option, Some, None, refl, sym, ap, subst, ◌∙◌}
+use Rattle.std.proofs.Common.{◌≡◌, ◌<◌, length, slice_index_or, ⊎_elim, ℕ, Bool, true, false, not, ◌&&◌, if◌then◌else◌, List, [], ◌∷◌, ◌++◌, map, flat_map, find, Contains, bytes_eq, Option, Some}
+use Rattle.std.proofs.Common.{None, refl, sym, ap, subst, ◌∙◌}
 use Rattle.std.specs.List.{list_any}
 use Rattle.std.proofs.lemmas.List.{append_assoc, append-nil}
 use Rattle.std.proofs.lemmas.List.Concat.{flat_map-append}
@@ -14,7 +15,8 @@ use Rattle.vl_ast.specs.declared.modules.Port.{Port}
 use Rattle.vl_ast.specs.declared.modules.ModItem.{ModItem}
 use Rattle.vl_ast.specs.declared.modules.ModItem.TheVariants.{Wire, Reg, Assign, Always}
 use Rattle.vl_ast.specs.declared.modules.Module.{Module}
-use Rattle.vl_ast.specs.Nets.{PlainWire, Register, Declared, port_declared, Mention, Declares, Drives, Reads, Clocks, mentions, item_mentions, declared_by, declarations, declaration_of, names_read, condition_names}
+use Rattle.vl_ast.specs.Nets.{PlainWire, Register, Declared, port_declared, Mention, Declares, Drives, Reads, Clocks, mentions, item_mentions, declared_by, declarations, declaration_of, names_read}
+use Rattle.vl_ast.specs.Nets.{condition_names}
 use Rattle.vl_ast.specs.Conditions.{first_fault, mentioned, is_declaration_of, is_driver_of, is_undriven, undriven, is_double, doubly, needs_driver, may_drive_it}
 use Rattle.math_list.proofs.Elements.{cons-cases, head-in, tail-in, none-in, Cut, cut-at, map-in, from-map, flat-in, from-flat, Order, AreOne, Before, After, order-of}
 use Rattle.math_list.proofs.Tests.{same_bytes}
@@ -258,13 +260,17 @@ module _ (m : Module) (driven : undriven m ≡ None) (once : doubly m ≡ None) 
 
   pub one-assign : (name : List ℕ) (one other : Expr) → Contains m.items (Assign name one) → Contains m.items (Assign name other) → one ≡ other
   one-assign name one other h i =
-      let e = one-driver false false name (Assign name one) (Assign name other) h i (head-in (Drives false name) (map Reads (names_read one))) (head-in (Drives false name) (map Reads (names_read other))) in
+      let e = one-driver false false name (Assign name one) (Assign name other) h i
+      (head-in (Drives false name) (map Reads (names_read one)))
+      (head-in (Drives false name) (map Reads (names_read other))) in
       cc e
 
   pub not-both : (name : List ℕ) (value : Expr) (first : Sized) (condition : Option Expr) (next : Expr) → Contains m.items (Assign name value) → Contains m.items (Always name first condition next) → ⊥
   not-both name value first condition next h i =
       let rest = map Reads (condition_names condition ++ names_read next) in
-      let e = one-driver false true name (Assign name value) (Always name first condition next) h i (head-in (Drives false name) (map Reads (names_read value))) (tail-in Clocks (Drives true name) (Drives true name ∷ rest) (head-in (Drives true name) rest)) in
+      let e = one-driver false true name (Assign name value) (Always name first condition next) h i
+      (head-in (Drives false name) (map Reads (names_read value)))
+      (tail-in Clocks (Drives true name) (Drives true name ∷ rest) (head-in (Drives true name) rest)) in
       absurd (cc e)
 
   pub one-always : (name : List ℕ) (first first' : Sized) (condition condition' : Option Expr) (value value' : Expr) → Contains m.items (Always name first condition value)
@@ -296,7 +302,9 @@ module _ (m : Module) (driven : undriven m ≡ None) (once : doubly m ≡ None) 
   item-declares (Assign n v) d h i = ⊎_elim (λ e. absurd (cc e)) (λ t. absurd (no-declaration-in d (names_read v) t)) (cons-cases (Drives false n) (Declares d) (map Reads (names_read v)) i)
   item-declares (Always n first condition v) d h i = ⊎_elim
       (λ e. absurd (cc e))
-      (λ t. ⊎_elim (λ e. absurd (cc e)) (λ u. absurd (no-declaration-in d (condition_names condition ++ names_read v) u)) (cons-cases (Drives true n) (Declares d) (map Reads (condition_names condition ++ names_read v)) t))
+      (λ t. ⊎_elim (λ e. absurd (cc e)) (λ u. absurd
+      (no-declaration-in d (condition_names condition ++ names_read v) u))
+      (cons-cases (Drives true n) (Declares d) (map Reads (condition_names condition ++ names_read v)) t))
       (cons-cases Clocks (Declares d) (Drives true n ∷ map Reads (condition_names condition ++ names_read v)) i)
 
   pub declaration-by : (d : Declared) → Contains all (Declares d) → Declaration d

@@ -85,19 +85,23 @@ wide_names :
     too_wide (with (reg_q ∷ square ∷ shows ∷ [])) ∷ too_wide (with (reg_q ∷ takes (number false 0 0) (name (codes "a")) ∷ shows ∷ []))
     ∷ too_wide (with (reg_q ∷ takes (number false 9 512) (name (codes "a")) ∷ shows ∷ [])) ∷ too_wide (with (reg_q ∷ square ∷ assign_y (roll-Expr (Expr-F.Bit (codes "clk") 0)) ∷ []))
     ∷ too_wide (with (reg_q ∷ square ∷ assign_y (roll-Expr (Expr-F.Bit (codes "q") 16)) ∷ [])) ∷ too_wide (with (reg_q ∷ square ∷ assign_y (roll-Expr (Expr-F.Part (codes "q") 0 1)) ∷ []))
-    ∷ too_wide (with (reg_q ∷ square ∷ assign_y (roll-Expr (Expr-F.Repeat 17 (name (codes "a")))) ∷ [])) ∷ too_wide (with (reg_q ∷ square ∷ assign_y (roll-Expr (Expr-F.Repeat 16 (name (codes "a")))) ∷ []))
+    ∷ too_wide (with (reg_q ∷ square ∷ assign_y (roll-Expr (Expr-F.Repeat 17 (name (codes "a")))) ∷ []))
+    ∷ too_wide (with (reg_q ∷ square ∷ assign_y (roll-Expr (Expr-F.Repeat 16 (name (codes "a")))) ∷ []))
     ∷ too_wide (with (Reg true 129 (codes "q") ∷ square ∷ shows ∷ [])) ∷ too_wide (with (reg_q ∷ square ∷ assign_y (roll-Expr (Expr-F.Repeat 0 (name (codes "a")))) ∷ [])) ∷ []
     ≡ None ∷ Some (codes "q") ∷ Some (codes "q") ∷ Some (codes "y") ∷ Some (codes "y") ∷ Some (codes "y") ∷ Some (codes "y") ∷ None ∷ Some (codes "q") ∷ Some (codes "y") ∷ []
 wide_names = simp (names_read-roll, sound-roll, own_length-roll)
 
 unclocked_names :
     no_reset (with (shows ∷ [])) ∷ no_reset (with (assign_y (name (codes "clk")) ∷ [])) ∷ no_reset (of (clk ∷ output_y ∷ []) []) ∷ no_reset (of (reset ∷ output_y ∷ []) [])
-    ∷ no_reset (of (output_y ∷ []) []) ∷ no_reset (of (port true true 1 (codes "reset") [] ∷ output_y ∷ []) []) ∷ no_reset (of (port true true 1 (codes "reset") [] ∷ clk ∷ output_y ∷ []) (assign_y (name (codes "clk")) ∷ [])) ∷ []
+    ∷ no_reset (of (output_y ∷ []) []) ∷ no_reset (of (port true true 1 (codes "reset") [] ∷ output_y ∷ []) [])
+    ∷ no_reset (of (port true true 1 (codes "reset") [] ∷ clk ∷ output_y ∷ [])
+    (assign_y (name (codes "clk")) ∷ [])) ∷ []
     ≡ None ∷ Some (codes "clk") ∷ Some (codes "reset") ∷ Some (codes "clk") ∷ Some (codes "clk") ∷ Some (codes "reset") ∷ Some (codes "reset") ∷ []
 unclocked_names = simp names_read-roll
 
 bare_names :
-    no_attribute (with []) ∷ no_attribute (of (clk ∷ reset ∷ port true true 8 (codes "a") [] ∷ output_y ∷ []) []) ∷ no_attribute (of (port true true 8 (codes "a") (attr (codes "fx_period") 4097 ∷ []) ∷ []) [])
+    no_attribute (with []) ∷ no_attribute (of (clk ∷ reset ∷ port true true 8 (codes "a") [] ∷ output_y ∷ []) [])
+    ∷ no_attribute (of (port true true 8 (codes "a") (attr (codes "fx_period") 4097 ∷ []) ∷ []) [])
     ∷ no_attribute (of (port false true 8 (codes "y") (attr (codes "fx_period") 1 ∷ []) ∷ []) [])
     ∷ no_attribute (record { name = codes "m"; attrs = attr (codes "fx_cycles") 0 ∷ attr (codes "fx_cycles") 1 ∷ []; ports = []; items = [] }) ∷ []
     ≡ None ∷ Some (codes "a") ∷ Some (codes "a") ∷ Some (codes "y") ∷ Some (codes "m") ∷ []

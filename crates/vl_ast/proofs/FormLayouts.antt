@@ -14,7 +14,9 @@ use Rattle.vl_ast.proofs.TokenForms.{token_text, IsWritten-token_text, identifie
 -- and the text may follow a bracket
 pub record Fits (ts : List Token) (text : List ℕ) : Type 0 where
   pub opens : AreWritable ts → (rest : List ℕ) → is_longest (codes "(") (text ++ rest) ≡ true
-  pub lays : AreWritable ts → (after : Bool) (gap : List ℕ) (tail : List Token) (rest bytes : List ℕ) → IsGap gap → (after ≡ true → gap ≢ []) → ((b : Bool) → Lays b tail rest) → bytes ≡ gap ++ (text ++ rest) → Lays after (ts ++ tail) bytes
+  pub lays : AreWritable ts → (after : Bool) (gap : List ℕ) (tail : List Token) (rest bytes : List ℕ) → IsGap gap
+      → (after ≡ true → gap ≢ []) → ((b : Bool) → Lays b tail rest) → bytes ≡ gap ++ (text ++ rest)
+      → Lays after (ts ++ tail) bytes
 
 -- after a sign any gap is right
 pub after_sign : (gap : List ℕ) → false ≡ true → gap ≢ []

@@ -1,6 +1,7 @@
 -- Of a module whose registers are gated by `clk_enable`: they keep their bits without it, a run with it in
 -- every row is a run of the module that isn't gated, and no condition is broken by it.
-use Rattle.std.proofs.Common.{◌≡◌, ◌<◌, ℕ, Bool, true, false, not, ◌&&◌, if◌then◌else◌, ◌==◌, List, [], ◌∷◌, ◌++◌, map, flat_map, find, Contains, bytes_eq, codes, Option, Some, None, refl, sym, ap, subst, ◌∙◌, arith}
+use Rattle.std.proofs.Common.{◌≡◌, ◌<◌, ℕ, Bool, true, false, not, ◌&&◌, if◌then◌else◌, ◌==◌, List, [], ◌∷◌, ◌++◌, map, flat_map, find, Contains, bytes_eq, codes, Option, Some, None, refl, sym, ap}
+use Rattle.std.proofs.Common.{subst, ◌∙◌, arith}
 use Rattle.std.proofs.lemmas.List.Concat.{flat_map-append}
 use Rattle.vl_ast.specs.declared.expressions.BinOp.TheVariants.{Both}
 use Rattle.vl_ast.specs.declared.expressions.Sized.{Sized}
@@ -129,7 +130,9 @@ module _ (m : Module) (plain : (nets_of m enable).signed ≡ false) where
         let o = of-always i.0 name first condition value i.2 in
         ap (λ c. next_bits (gated m) row name first c value) o.is
         ∙ gated-next m row name first o.was value plain
-        ∙ ap (λ r. if r == 1 then assigned_number (nets_of m name).width first else (if not (row enable == 0) && takes_value m row o.was then assigned (nets_of m) row (nets_of m name).width value else row name)) released
+        ∙ ap (λ r. if r == 1 then assigned_number (nets_of m name).width first else
+        (if not (row enable == 0) && takes_value m row o.was then assigned (nets_of m) row
+        (nets_of m name).width value else row name)) released
         ∙ ap (λ e. if not (e == 0) && takes_value m row o.was then assigned (nets_of m) row (nets_of m name).width value else row name) off;
   }
 

@@ -1,5 +1,6 @@
 -- A gated module breaks no condition that the module itself doesn't break.
-use Rattle.std.proofs.Common.{◌≡◌, ◌<◌, ◌+◌, ◌%◌, ◌⊎◌, inl, inr, ℕ, suc, nat_le, Bool, true, false, not, ◌&&◌, ◌||◌, if◌then◌else◌, List, [], ◌∷◌, ◌++◌, map, flat_map, find, length, slice_index_or, Contains, bytes_eq, codes, Option, Some, None, option_map, refl, sym, ap, subst, ◌∙◌, arith}
+use Rattle.std.proofs.Common.{◌≡◌, ◌<◌, ◌+◌, ◌%◌, ◌⊎◌, inl, inr, ℕ, suc, nat_le, Bool, true, false, not, ◌&&◌, ◌||◌, if◌then◌else◌, List, [], ◌∷◌, ◌++◌, map, flat_map, find, length, slice_index_or}
+use Rattle.std.proofs.Common.{Contains, bytes_eq, codes, Option, Some, None, option_map, refl, sym, ap, subst, ◌∙◌, arith}
 use Rattle.std.specs.List.{list_any}
 use Rattle.std.proofs.lemmas.List.{append_assoc, append-nil}
 use Rattle.std.proofs.lemmas.List.Folds.{list_any-from_Any, list_any-append}
@@ -14,7 +15,8 @@ use Rattle.vl_ast.specs.declared.expressions.Expr.TheFolds.{para-roll-Expr, fold
 use Rattle.vl_ast.specs.declared.modules.ModItem.{ModItem}
 use Rattle.vl_ast.specs.declared.modules.ModItem.TheVariants.{Wire, Reg, Assign, Always}
 use Rattle.vl_ast.specs.declared.modules.Module.{Module}
-use Rattle.vl_ast.specs.Conditions.{first_fault, mentioned, is_undriven, is_double, is_declaration_of, is_driver_of, is_read_of, needs_driver, may_drive_it, AssignmentReads, IsLoop, IsAcyclic, is_number, is_sound_step, is_sound, is_sound_condition, is_sound_item, item_name, is_width, too_wide, is_clk_at_fault, is_reset_at_fault, no_reset, BreaksNone}
+use Rattle.vl_ast.specs.Conditions.{first_fault, mentioned, is_undriven, is_double, is_declaration_of, is_driver_of, is_read_of, needs_driver, may_drive_it, AssignmentReads, IsLoop, IsAcyclic}
+use Rattle.vl_ast.specs.Conditions.{is_number, is_sound_step, is_sound, is_sound_condition, is_sound_item, item_name, is_width, too_wide, is_clk_at_fault, is_reset_at_fault, no_reset, BreaksNone}
 use Rattle.vl_ast.specs.Control.{is_bit_input, is_stallable}
 use Rattle.vl_ast.specs.Gated.{gated, gated_item, gated_condition}
 use Rattle.vl_ast.specs.Context.{Net}

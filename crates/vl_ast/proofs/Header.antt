@@ -22,6 +22,8 @@ one_delay = record {
 }
 
 pub spelling-one_delay :
-    spelling one_delay ≡ codes "(* fx_cycles = 1 *)\nmodule fx_model (\n  input wire clk,\n  input wire reset,\n  (* fx_period = 1 *)\n  input wire signed [7:0] u,\n  (* fx_period = 1, fx_latency = 0 *)\n  output wire signed [7:0] y\n);\nendmodule\n"
+    spelling one_delay
+    ≡ codes
+    "(* fx_cycles = 1 *)\nmodule fx_model (\n  input wire clk,\n  input wire reset,\n  (* fx_period = 1 *)\n  input wire signed [7:0] u,\n  (* fx_period = 1, fx_latency = 0 *)\n  output wire signed [7:0] y\n);\nendmodule\n"
 unfolding digits
 spelling-one_delay = refl

@@ -62,7 +62,9 @@ assign_lays name value w tail rest next after =
     (λ b. word_lays (Identifier name) b (codes " ") (Sign (codes "=") ∷ valued) first start w.1.0 tt space_gap (not_empty 32 [] b)
     (λ d. sign_lays (codes "=") (codes " ") valued second first space_gap refl
     (laid_same false valued (expr_tokens value ++ (Sign (codes ";") ∷ tail)) second (append_assoc (expr_tokens value) end tail)
-    ((expr_fits value).lays (AllWritable-front (expr_tokens value) end w.1.1.1) false (codes " ") (Sign (codes ";") ∷ tail) ended second space_gap (after_sign (codes " ")) (end_lays tail (codes "\n" ++ rest) next) refl)) refl d) refl)
+    ((expr_fits value).lays (AllWritable-front (expr_tokens value) end w.1.1.1) false
+    (codes " ") (Sign (codes ";") ∷ tail) ended second space_gap
+    (after_sign (codes " ")) (end_lays tail (codes "\n" ++ rest) next) refl)) refl d) refl)
     (assign_shape name (expr_text value) rest)
 
 condition_shape : (condition rest : List ℕ) →
@@ -159,7 +161,9 @@ always_lays name first condition value w tail rest next after =
     let k3 : List Token = Sign (codes "(") ∷ k4 in
     let k2 : List Token = Sign (codes "@") ∷ k3 in
     let u : AreWritable (Identifier name ∷ Sign (codes "<=") ∷ Based first ∷ Sign (codes ";") ∷ Key (codes "else") ∷ (condition_tokens condition ++ next_item name value)) = w.1.1.1.1.1.1.1.1.1.1.1 in
-    let l16 : (b : Bool) → Lays b chosen t16 = λ b. laid_same b chosen (condition_tokens condition ++ (next_item name value ++ tail)) t16 (append_assoc (condition_tokens condition) (next_item name value) tail)
+    let l16 : (b : Bool) → Lays b chosen t16 =
+    λ b. laid_same b chosen (condition_tokens condition ++ (next_item name value ++ tail)) t16
+    (append_assoc (condition_tokens condition) (next_item name value) tail)
     (condition_lays condition (AllWritable-front (condition_tokens condition) (next_item name value) inner) (next_item name value ++ tail) taken
     (next_lays name value (AllWritable-back (condition_tokens condition) (next_item name value) inner) tail rest next) b) in
     let l15 : (b : Bool) → Lays b k16 t15 = λ b. word_lays (Key (codes "else")) b (codes " ") chosen t16 t15 u.1.1.1.1.0 tt space_gap (not_empty 32 [] b) l16 refl in

@@ -29,7 +29,8 @@ port_tokens port = attrs_tokens port.attrs ++ declaration_tokens (port_words por
 
 -- these can be written where those of some text can
 
-net_kept : (words end : List Token) (signed : Bool) (width : ℕ) (name : List ℕ) (range : List Token) → AreWritable (declaration_tokens words signed range name ++ end) → AreWritable (range_tokens width) →
+net_kept : (words end : List Token) (signed : Bool) (width : ℕ) (name : List ℕ) (range : List Token)
+    → AreWritable (declaration_tokens words signed range name ++ end) → AreWritable (range_tokens width) →
     AreWritable (declaration_tokens words signed (range_tokens width) name ++ end)
 net_kept words end signed width name range w kept =
     let body : AreWritable (declaration_tokens words signed range name) = AllWritable-front _ end w in
@@ -47,7 +48,8 @@ net_range words end signed name range w =
 pub written_as : (ts us : List Token) → ts ≡ us → AreWritable ts → AreWritable us
 written_as ts us e w = let P : List Token → Type 0 = λ vs. AreWritable vs in subst P e w
 
-net_item_kept : (word : List ℕ) (signed : Bool) (width : ℕ) (name : List ℕ) (range ts : List Token) → IsRange width range → ts ≡ declaration_tokens (Key word ∷ []) signed range name ++ Sign (codes ";") ∷ [] →
+net_item_kept : (word : List ℕ) (signed : Bool) (width : ℕ) (name : List ℕ) (range ts : List Token)
+    → IsRange width range → ts ≡ declaration_tokens (Key word ∷ []) signed range name ++ Sign (codes ";") ∷ [] →
     AreWritable ts → IsRange width (range_tokens width) × AreWritable (net_item word signed width name)
 net_item_kept word signed width name range ts ranged is w =
     let v = written_as ts _ is w in
@@ -80,8 +82,10 @@ port_kept port ts is w =
     )
 
 -- what holds of each part of a list, where these tokens stand before each
-pub all_kept : {A : Type 0} (R : A → List Token → Type 0) (tokens : A → List Token) (before : List Token) → ((x : A) (ts : List Token) → R x ts → AreWritable ts → R x (tokens x) × AreWritable (tokens x)) →
-    (xs : List A) (tss : List (List Token)) → AllZip R xs tss → AreWritable (flat_map (λ ts. before ++ ts) tss) → AllZip R xs (map tokens xs) × AreWritable (flat_map (λ ts. before ++ ts) (map tokens xs))
+pub all_kept : {A : Type 0} (R : A → List Token → Type 0) (tokens : A → List Token) (before : List Token)
+    → ((x : A) (ts : List Token) → R x ts → AreWritable ts → R x (tokens x) × AreWritable (tokens x)) →
+    (xs : List A) (tss : List (List Token)) → AllZip R xs tss → AreWritable (flat_map (λ ts. before ++ ts) tss)
+    → AllZip R xs (map tokens xs) × AreWritable (flat_map (λ ts. before ++ ts) (map tokens xs))
 all_kept R tokens before kept [] [] each w = (tt, tt)
 all_kept R tokens before kept [] (ts ∷ tss) each w = absurd each
 all_kept R tokens before kept (x ∷ xs) [] each w = absurd each
@@ -189,7 +193,10 @@ module_tokens m =
 
 spelling_shape : (attrs name ports items : List ℕ) →
     attrs ++ codes "module " ++ name ++ codes " (\n" ++ ports ++ codes "\n);\n" ++ items ++ codes "endmodule\n"
-    ≡ [] ++ (attrs ++ (codes "module" ++ (codes " " ++ (name ++ (codes " " ++ (codes "(" ++ (codes "\n" ++ (ports ++ (codes "\n" ++ (codes ")" ++ (codes ";" ++ (codes "\n" ++ (items ++ codes "endmodule\n")))))))))))))
+    ≡ [] ++ (attrs ++ (codes "module" ++ (codes " "
+    ++ (name ++ (codes " " ++ (codes "("
+    ++ (codes "\n" ++ (ports ++ (codes "\n"
+    ++ (codes ")" ++ (codes ";" ++ (codes "\n" ++ (items ++ codes "endmodule\n")))))))))))))
 spelling_shape attrs name ports items = simp append_assoc
 
 pub module_lays : (m : Module) → m.ports ≢ [] → AreWritable (module_tokens m) → Lays false (module_tokens m) (spelling m)
@@ -213,11 +220,16 @@ module_lays m some w =
     let l3 : (b : Bool) → Lays b (module_tail m) t3 = λ b. sign_lays (codes ")") (codes "\n") (Sign (codes ";") ∷ (items ++ Key (codes "endmodule") ∷ [])) t4 t3 line_gap refl (l4 false) refl b in
     let l2 : Lays false (ports ++ module_tail m) t2 = list_lays m.ports some own (module_tail m) t3 l3 in
     let l1 : (b : Bool) → Lays b (Sign (codes "(") ∷ (ports ++ module_tail m)) t1 = λ b. sign_lays (codes "(") (codes " ") (ports ++ module_tail m) t2 t1 space_gap refl l2 refl b in
-    let l0 : (b : Bool) → Lays b (Identifier m.name ∷ Sign (codes "(") ∷ (ports ++ module_tail m)) t0 = λ b. word_lays (Identifier m.name) b (codes " ") (Sign (codes "(") ∷ (ports ++ module_tail m)) t1 t0 v.1.0 tt space_gap (not_empty 32 [] b) l1 refl in
+    let l0 : (b : Bool) → Lays b (Identifier m.name ∷ Sign (codes "(") ∷ (ports ++ module_tail m)) t0 =
+    λ b. word_lays (Identifier m.name) b
+    (codes " ") (Sign (codes "(") ∷ (ports ++ module_tail m)) t1 t0 v.1.0 tt space_gap
+    (not_empty 32 [] b) l1 refl in
     let P : List ℕ → Type 0 = λ bytes. Lays false (module_tokens m) bytes in
     subst P (sym (spelling_shape (attrs_text [] m.attrs) m.name (joined (codes ",\n") (map port_text m.ports)) (flat_map item_text m.items)))
     (attrs_lay [] no_gap m.attrs (AllWritable-front (attrs_tokens m.attrs) head w) [] no_gap head (codes "module" ++ t0)
-    (λ gap g. word_lays (Key (codes "module")) false gap (Identifier m.name ∷ Sign (codes "(") ∷ (ports ++ module_tail m)) t0 (gap ++ (codes "module" ++ t0)) (codes "module", refl) tt g (after_sign gap) l0 refl))
+    (λ gap g. word_lays (Key (codes "module")) false gap
+    (Identifier m.name ∷ Sign (codes "(") ∷ (ports ++ module_tail m)) t0 (gap ++ (codes "module" ++ t0))
+    (codes "module", refl) tt g (after_sign gap) l0 refl))
 
 pub tokens_spell : (m : Module) (tokens : List Token) → IsModuleText m tokens → AreWritable tokens → Spells (spelling m) m
 tokens_spell m tokens is writable =

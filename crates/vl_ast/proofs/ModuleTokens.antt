@@ -1,5 +1,6 @@
 -- The tokens of a module that breaks no condition can be written, where its names are identifiers.
-use Rattle.std.proofs.Common.{◌≡◌, ◌≤◌, ◌-◌, ⊎_elim, inl, inr, ℕ, nat_le, Bool, true, false, not, ◌&&◌, ◌==◌, if◌then◌else◌, List, [], ◌∷◌, ◌++◌, map, find, flat_map, Contains, codes, Option, Some, None, option_map, refl, sym, ap, subst, ◌∙◌, arith}
+use Rattle.std.proofs.Common.{◌≡◌, ◌≤◌, ◌-◌, ⊎_elim, inl, inr, ℕ, nat_le, Bool, true, false, not, ◌&&◌, ◌==◌, if◌then◌else◌, List, [], ◌∷◌, ◌++◌, map, find, flat_map, Contains, codes, Option, Some}
+use Rattle.std.proofs.Common.{None, option_map, refl, sym, ap, subst, ◌∙◌, arith}
 use Rattle.std.specs.List.{AllZip}
 use Rattle.std.proofs.lemmas.Bool.{leb-true, eqb-true, and_parts}
 use Rattle.std.proofs.lemmas.List.Elements.{Contains-append_left, Contains-append_right}
@@ -18,7 +19,8 @@ use Rattle.vl_ast.specs.Spelling.{joined, spelling}
 use Rattle.vl_ast.specs.Tokens.{Token, Key, Sign, Identifier, IsWritable, AreWritable}
 use Rattle.vl_names.specs.Identifiers.{is_identifier}
 use Rattle.vl_ast.proofs.Agree.{ByLayer}
-use Rattle.vl_ast.proofs.Facts.{Declaration, OfPort, OfWire, OfReg, declaration-by, is-declared, mention-listed, read-declared, driven-declared, in-port, wire-declared, reg-declared, assign-drives, always-drives, reads-of-assign, reads-of-always}
+use Rattle.vl_ast.proofs.Facts.{Declaration, OfPort, OfWire, OfReg, declaration-by, is-declared, mention-listed, read-declared, driven-declared, in-port, wire-declared, reg-declared, assign-drives}
+use Rattle.vl_ast.proofs.Facts.{always-drives, reads-of-assign, reads-of-always}
 use Rattle.vl_ast.proofs.Layouts.{AllWritable-append}
 use Rattle.vl_ast.proofs.ItemLayouts.{net_item}
 use Rattle.vl_ast.proofs.ModuleLayouts.{item_tokens, port_tokens, port_words, module_lays, module_tokens, module_tail}
@@ -143,13 +145,22 @@ module _ (by_layer : ByLayer) (m : Module) (acyclic : IsAcyclic m) (wide : too_w
   abbrev IsWrittenItem : ModItem → Type 0
   IsWrittenItem i = IsItemText i (item_tokens i) × AreWritable (item_tokens i)
 
-  condition-written : (condition : Option Expr) → is_sound_condition (nets_of m) condition ≡ true → IsCondition condition → ((name : List ℕ) → Contains (condition_names condition) name → IsKnown (nets_of m) name)
+  condition-written : (condition : Option Expr) → is_sound_condition (nets_of m) condition ≡ true
+      → IsCondition condition
+      → ((name : List ℕ) → Contains (condition_names condition) name → IsKnown (nets_of m) name)
       → AreWritable (condition_tokens condition)
   condition-written None sound expr k = tt
-  condition-written (Some condition) sound expr k =
-      (key-writable (codes "if"), (sign-writable (codes "("), AllWritable-append (expr_tokens condition) (Sign (codes ")") ∷ []) (expr-writable (nets_of m) condition sound expr.1 k) (sign-writable (codes ")"), tt)))
+  condition-written (Some condition) sound expr k = (
+    key-writable (codes "if"),
+    (
+      sign-writable (codes "("),
+      AllWritable-append (expr_tokens condition) (Sign (codes ")") ∷ [])
+          (expr-writable (nets_of m) condition sound expr.1 k) (sign-writable (codes ")"), tt),
+    ),
+  )
 
-  net-written : (word : List ℕ) → IsWritable (Key word) → (signed : Bool) (width : ℕ) (name : List ℕ) → is_width width ≡ true → is_identifier name ≡ true → AreWritable (net_item word signed width name)
+  net-written : (word : List ℕ) → IsWritable (Key word) → (signed : Bool) (width : ℕ) (name : List ℕ)
+      → is_width width ≡ true → is_identifier name ≡ true → AreWritable (net_item word signed width name)
   net-written word writable signed width name wide e =
       AllWritable-append (declaration_tokens (Key word ∷ []) signed (range_tokens width) name) (Sign (codes ";") ∷ [])
       (declaration-written (Key word ∷ []) signed width name (writable, tt) wide e) (sign-writable (codes ";"), tt)
@@ -166,8 +177,19 @@ module _ (by_layer : ByLayer) (m : Module) (acyclic : IsAcyclic m) (wide : too_w
   item-written (Assign name value) c =
       let expr = spellable.items (Assign name value) c in
       let e = driven-name false name (assign-drives m acyclic.driven acyclic.once name value c) in
-      let w = expr-writable (nets_of m) value (item-sound (Assign name value) c) expr.1 (λ read r. known read (reads-of-assign m acyclic.driven acyclic.once name read value c r)) in
-      ((expr, refl), (key-writable (codes "assign"), (name-writable name e, (sign-writable (codes "="), AllWritable-append (expr_tokens value) (Sign (codes ";") ∷ []) w (sign-writable (codes ";"), tt)))))
+      let w = expr-writable (nets_of m) value (item-sound (Assign name value) c) expr.1 (λ read r. known read (reads-of-assign m acyclic.driven acyclic.once name read value c r)) in (
+        (expr, refl),
+        (
+          key-writable (codes "assign"),
+          (
+            name-writable name e,
+            (
+              sign-writable (codes "="),
+              AllWritable-append (expr_tokens value) (Sign (codes ";") ∷ []) w (sign-writable (codes ";"), tt),
+            ),
+          ),
+        ),
+      )
   item-written (Always name first condition value) c =
       let expr = spellable.items (Always name first condition value) c in
       let e = driven-name true name (always-drives m acyclic.driven acyclic.once name first condition value c) in
@@ -176,8 +198,70 @@ module _ (by_layer : ByLayer) (m : Module) (acyclic : IsAcyclic m) (wide : too_w
       let read : (n : List ℕ) → Contains (condition_names condition ++ names_read value) n → IsKnown (nets_of m) n =
       λ n r. known n (reads-of-always m acyclic.driven acyclic.once name n first condition value c r) in
       let w = expr-writable (nets_of m) value sound.1 expr.1.1 (λ n r. read n (Contains-append_right (condition_names condition) (names_read value) n r)) in
-      let v = condition-written condition head.1 expr.0 (λ n r. read n (Contains-append_left (condition_names condition) (names_read value) n r)) in
-      ((expr.0, expr.1, refl), (key-writable (codes "always"), (sign-writable (codes "@"), (sign-writable (codes "("), (key-writable (codes "posedge"), (key-writable (codes "clk"), (sign-writable (codes ")"), (key-writable (codes "begin"), (key-writable (codes "if"), (sign-writable (codes "("), (key-writable (codes "reset"), (sign-writable (codes ")"), (name-writable name e, (sign-writable (codes "<="), ((literal-of first head.0).writable, (sign-writable (codes ";"), (key-writable (codes "else"), AllWritable-append (condition_tokens condition) _ v (name-writable name e, (sign-writable (codes "<="), AllWritable-append (expr_tokens value) _ w (sign-writable (codes ";"), (key-writable (codes "end"), tt)))))))))))))))))))))
+      let v = condition-written condition head.1 expr.0 (λ n r. read n (Contains-append_left (condition_names condition) (names_read value) n r)) in (
+        (expr.0, expr.1, refl),
+        (
+          key-writable (codes "always"),
+          (
+            sign-writable (codes "@"),
+            (
+              sign-writable (codes "("),
+              (
+                key-writable (codes "posedge"),
+                (
+                  key-writable (codes "clk"),
+                  (
+                    sign-writable (codes ")"),
+                    (
+                      key-writable (codes "begin"),
+                      (
+                        key-writable (codes "if"),
+                        (
+                          sign-writable (codes "("),
+                          (
+                            key-writable (codes "reset"),
+                            (
+                              sign-writable (codes ")"),
+                              (
+                                name-writable name e,
+                                (
+                                  sign-writable (codes "<="),
+                                  (
+                                    (literal-of first head.0).writable,
+                                    (
+                                      sign-writable (codes ";"),
+                                      (
+                                        key-writable (codes "else"),
+                                        AllWritable-append (condition_tokens condition) _ v (
+                                          name-writable name e,
+                                          (
+                                            sign-writable (codes "<="),
+                                            AllWritable-append (expr_tokens value) _ w (
+                                              sign-writable (codes ";"),
+                                              (
+                                                key-writable (codes "end"),
+                                                tt,
+                                              ),
+                                            ),
+                                          ),
+                                        ),
+                                      ),
+                                    ),
+                                  ),
+                                ),
+                              ),
+                            ),
+                          ),
+                        ),
+                      ),
+                    ),
+                  ),
+                ),
+              ),
+            ),
+          ),
+        ),
+      )
 
   port-written : (port : Port) → Contains m.ports port → IsPortText port (port_tokens port) × AreWritable (port_tokens port)
   port-written port c =
@@ -190,7 +274,27 @@ module _ (by_layer : ByLayer) (m : Module) (acyclic : IsAcyclic m) (wide : too_w
 
   module-written : AreWritable (module_tokens m)
   module-written =
-      AllWritable-append (attrs_tokens m.attrs) _ (attrs-written m.attrs spellable.attrs) (key-writable (codes "module"), (name-writable m.name spellable.name, (sign-writable (codes "("), AllWritable-append (joined comma (map port_tokens m.ports)) (module_tail m) (joined-writable (map port_tokens m.ports) (each-of port_tokens m.ports (λ port c. (port-written port c).1))) (sign-writable (codes ")"), (sign-writable (codes ";"), AllWritable-append (flat_map (λ ts. ts) (map item_tokens m.items)) (Key (codes "endmodule") ∷ []) (flat-of item_tokens m.items (λ i c. (item-written i c).1)) (key-writable (codes "endmodule"), tt))))))
+      AllWritable-append (attrs_tokens m.attrs) _ (attrs-written m.attrs spellable.attrs) (
+        key-writable (codes "module"),
+        (
+          name-writable m.name spellable.name,
+          (
+            sign-writable (codes "("),
+            AllWritable-append (joined comma (map port_tokens m.ports))
+                (module_tail m) (joined-writable (map port_tokens m.ports)
+                (each-of port_tokens m.ports (λ port c. (port-written port c).1))) (
+                  sign-writable (codes ")"),
+                  (
+                    sign-writable (codes ";"),
+                    AllWritable-append (flat_map (λ ts. ts) (map item_tokens m.items))
+                        (Key (codes "endmodule") ∷ [])
+                        (flat-of item_tokens m.items (λ i c. (item-written i c).1))
+                        (key-writable (codes "endmodule"), tt),
+                  ),
+                ),
+          ),
+        ),
+      )
 
   pub module-spells : Spells (spelling m) m
   module-spells = record {

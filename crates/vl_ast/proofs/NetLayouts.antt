@@ -97,7 +97,9 @@ pub net_lays : (signed : Bool) (width : ℕ) (name : List ℕ) → AreWritable (
     Lays after ((signed_tokens signed ++ (range_tokens width ++ Identifier name ∷ [])) ++ tail) (codes " " ++ ((signed_text signed ++ range_text width ++ name) ++ rest))
 net_lays false width name w tail rest next after = range_lays (width == 1) width name w tail rest next after
 net_lays true width name w tail rest next after =
-    word_lays (Key (codes "signed")) after (codes " ") ((range_tokens width ++ Identifier name ∷ []) ++ tail) (codes " " ++ ((range_text width ++ name) ++ rest)) _ w.0 tt space_gap (not_empty 32 [] after)
+    word_lays (Key (codes "signed")) after
+    (codes " ") ((range_tokens width ++ Identifier name ∷ []) ++ tail)
+    (codes " " ++ ((range_text width ++ name) ++ rest)) _ w.0 tt space_gap (not_empty 32 [] after)
     (range_lays (width == 1) width name w.1 tail rest next) refl
 
 range_of : (one : Bool) (width : ℕ) → 0 < width → (one ≡ true → width ≡ 1) → AreWritable (bounds width) →

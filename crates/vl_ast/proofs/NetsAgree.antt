@@ -6,7 +6,8 @@ use Rattle.vl_ast.specs.declared.expressions.Expr.{Expr}
 use Rattle.vl_ast.specs.declared.expressions.Expr.TheOpen.{Expr-F}
 use Rattle.vl_ast.specs.declared.expressions.Expr.TheViews.{roll-Expr}
 use Rattle.vl_ast.specs.declared.expressions.Expr.TheFolds.{map-Expr, fold-roll-Expr, ind-Expr}
-use Rattle.vl_ast.specs.Context.{Net, Place, InWhole, Together, Alone, Operand, alone, operand_at, unary_place, binary_place, in_context, own_length, is_signed, length_step, sign_step, length_at, sign_at}
+use Rattle.vl_ast.specs.Context.{Net, Place, InWhole, Together, Alone, Operand, alone, operand_at, unary_place, binary_place, in_context, own_length, is_signed, length_step, sign_step, length_at}
+use Rattle.vl_ast.specs.Context.{sign_at}
 use Rattle.vl_ast.specs.Nets.{names_read, names_step}
 use Rattle.vl_ast.specs.Value.{Bits, bits_step, extended, beside, unary_bits, binary_bits, shift_bits, value_in, bits_in, operand_of, assigned, is_true}
 use Rattle.vl_ast.proofs.Agree.{ByLayer}
@@ -140,7 +141,9 @@ module _ (by_layer : ByLayer) (rename : List ℕ → List ℕ) (renamed : Expr �
   sign-step _ s = refl
 
   value-step : (y : Expr-F Known) → SameIn y → (width : ℕ) (signed : Bool)
-      → bits_step nets row width signed (in_context nets width signed (map-Expr Expr (Operand Bits) (operand_of nets row) (relabelled rename (map-Expr Expr Expr renamed (map-Expr Known Expr (λ p. p.0) y)))))
+      → bits_step nets row width signed (in_context nets width signed
+      (map-Expr Expr (Operand Bits) (operand_of nets row)
+      (relabelled rename (map-Expr Expr Expr renamed (map-Expr Known Expr (λ p. p.0) y)))))
       ≡ bits_step other inside width signed (in_context other width signed (map-Expr Expr (Operand Bits) (operand_of other inside) (map-Expr Known Expr (λ p. p.0) y)))
   value-step (Expr-F.Name name) s width signed = ap (λ (n : Net). extended (record { width = n.width; signed = signed; bits = row (rename name) }) width) (only rename nets other name s)
   value-step (Expr-F.Bit name place) s width signed = refl

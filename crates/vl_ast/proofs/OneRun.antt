@@ -1,5 +1,6 @@
 -- A module with no loops has rows, and no two lists of them.
-use Rattle.std.proofs.Common.{◌≡◌, ◌≢◌, ◌<◌, ◌+◌, ◌%◌, ◌^◌, ◌⊎◌, inl, inr, ⊎_elim, ℕ, zero, suc, max, Bool, true, false, ◌&&◌, if◌then◌else◌, ◌==◌, List, [], ◌∷◌, length, Contains, bytes_eq, codes, Option, Some, None, refl, sym, ap, subst, ◌∙◌, arith}
+use Rattle.std.proofs.Common.{◌≡◌, ◌≢◌, ◌<◌, ◌+◌, ◌%◌, ◌^◌, ◌⊎◌, inl, inr, ⊎_elim, ℕ, zero, suc, max, Bool, true, false, ◌&&◌, if◌then◌else◌, ◌==◌, List, [], ◌∷◌, length, Contains, bytes_eq, codes}
+use Rattle.std.proofs.Common.{Option, Some, None, refl, sym, ap, subst, ◌∙◌, arith}
 use Rattle.std.specs.List.{list_any}
 use Rattle.std.proofs.lemmas.List.Folds.{Any-from_list_any, list_any-from_Any}
 use Rattle.std.proofs.lemmas.Bool.{and_parts, false≢true, cond-true, cond-false, cases_eq, cases_Bool}
@@ -171,7 +172,14 @@ module _ (by_layer : ByLayer) (m : Module) (driven : undriven m ≡ None) (once 
   input-seen : (port : Port) → Contains m.ports port → port.input ≡ true → is_input port.name ≡ true
   unfolding is_input
   input-seen port h input =
-      list_any-from_Any (λ p. p.input && bytes_eq p.name port.name) m.ports (h.0, port, h.1, h.2, both (port.input) (bytes_eq port.name port.name) input ((bytes_eq-Decides port.name port.name).1 refl))
+      list_any-from_Any (λ p. p.input && bytes_eq p.name port.name) m.ports (
+        h.0,
+        port,
+        h.1,
+        h.2,
+        both (port.input) (bytes_eq port.name port.name) input
+            ((bytes_eq-Decides port.name port.name).1 refl),
+      )
     where
       both : (a b : Bool) → a ≡ true → b ≡ true → (a && b) ≡ true
       both a b e f = rw (e, f) refl
@@ -267,7 +275,9 @@ module _ (by_layer : ByLayer) (m : Module) (driven : undriven m ≡ None) (once 
   settled-fits input state name = subst (λ v. v < 2 ^ (nets_of m name).width) (sym (settled-fixed (basis input state) name)) (by (assignment m.items name)) where
     by : (a : Option Expr) → relaid (basis input state) (settled (basis input state)) name a < 2 ^ (nets_of m name).width
     by None = basis-fits input state name
-    by (Some value) = mod_below (value_in (nets_of m) (settled (basis input state)) (max (nets_of m name).width (own_length (nets_of m) value)) (is_signed (nets_of m) value) value) (2 ^ (nets_of m name).width) (pow_pos (nets_of m name).width)
+    by (Some value) = mod_below (value_in (nets_of m) (settled (basis input state))
+        (max (nets_of m name).width (own_length (nets_of m) value)) (is_signed (nets_of m) value) value)
+        (2 ^ (nets_of m name).width) (pow_pos (nets_of m name).width)
 
   row-fits : (start : List ℕ → ℕ) (inputs : ℕ → List ℕ → ℕ) (k : ℕ) (name : List ℕ) → rows-of start inputs k name < 2 ^ (nets_of m name).width
   unfolding rows-of
@@ -300,7 +310,9 @@ module _ (by_layer : ByLayer) (m : Module) (driven : undriven m ≡ None) (once 
     width : ℕ
     width = (nets_of m name).width
 
-    by : (reset takes : Bool) → (if reset then assigned_number (nets_of m name).width first else (if takes then assigned (nets_of m) row (nets_of m name).width value else row name)) < 2 ^ (nets_of m name).width
+    by : (reset takes : Bool) → (if reset then assigned_number (nets_of m name).width first else
+        (if takes then assigned (nets_of m) row (nets_of m name).width value else row name))
+        < 2 ^ (nets_of m name).width
     by true takes = mod_below _ (2 ^ (nets_of m name).width) (pow_pos (nets_of m name).width)
     by false true = mod_below _ (2 ^ (nets_of m name).width) (pow_pos (nets_of m name).width)
     by false false = below

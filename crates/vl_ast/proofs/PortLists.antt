@@ -39,7 +39,9 @@ pub record ApartAt (ports : List Port) : Type 0 where
 pub filtered-apart : (test : Port → Bool) (ports : List Port) → Apart ports → ApartAt (filter test ports)
 filtered-apart test [] apart = record { at = λ i j one other less ei ej. absurd (cc ei) }
 filtered-apart test (first ∷ ports) apart = by (filtered-apart test ports (apart-tail first ports apart)) (test first) refl where
-  with-first : ApartAt (filter test ports) → (i j : ℕ) (one other : Port) → i < j → slice_get (first ∷ filter test ports) i ≡ Some one → slice_get (first ∷ filter test ports) j ≡ Some other → one.name ≢ other.name
+  with-first : ApartAt (filter test ports) → (i j : ℕ) (one other : Port) → i < j
+      → slice_get (first ∷ filter test ports) i ≡ Some one → slice_get (first ∷ filter test ports) j ≡ Some other
+      → one.name ≢ other.name
   with-first rest i zero one other less ei ej = absurd (omega (arith, less))
   with-first rest zero (suc j) one other less ei ej =
       let same : first ≡ one = cc ei in

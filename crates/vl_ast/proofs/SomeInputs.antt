@@ -1,5 +1,6 @@
 -- For every stimulus and every count of rows there are inputs that it drives.
-use Rattle.std.proofs.Common.{◌≡◌, ◌<◌, ◌≤◌, ◌+◌, ◌-◌, ◌*◌, ◌/◌, ◌%◌, ◌^◌, ⊎_elim, ℕ, zero, suc, Bool, true, false, not, ◌&&◌, ◌||◌, ◌==◌, if◌then◌else◌, nat_le, List, [], ◌∷◌, filter, slice_get, Contains, bytes_eq, codes, Option, Some, None, ℤ, pos, negsuc, refl, sym, ap, subst, ◌∙◌, arith}
+use Rattle.std.proofs.Common.{◌≡◌, ◌<◌, ◌≤◌, ◌+◌, ◌-◌, ◌*◌, ◌/◌, ◌%◌, ◌^◌, ⊎_elim, ℕ, zero, suc, Bool, true, false, not, ◌&&◌, ◌||◌, ◌==◌, if◌then◌else◌, nat_le, List, [], ◌∷◌, filter, slice_get}
+use Rattle.std.proofs.Common.{Contains, bytes_eq, codes, Option, Some, None, ℤ, pos, negsuc, refl, sym, ap, subst, ◌∙◌, arith}
 use Rattle.std.proofs.lemmas.Bool.{cond-true, cond-false, eq-eqb, cases_Bool, or_parts, and_parts, not-true, le-leb, lt-leb}
 use Rattle.std.proofs.lemmas.Nat.{mod_below, pow_pos, mod-mul-add, div-add-mod'}
 use Rattle.std.proofs.Math.Nat.{mod-eq_of_lt, div-lt_iff_lt-mul, le-div_iff_mul-le}
@@ -64,32 +65,43 @@ shown-at : (cycles : Option ℕ) (stimulus : ℕ → ℕ → ℤ) (test : Port �
     → slice_get (filter test ports) place ≡ Some port → shown cycles stimulus (filter test ports) offset clock port.name ≡ timed port (stimulus (offset + place)) clock cycles (period_of port)
 unfolding shown
 shown-at cycles stimulus test [] apart offset place clock port e = absurd (cc e)
-shown-at cycles stimulus test (first ∷ ports) apart offset place clock port e = by (λ offset place. shown-at cycles stimulus test ports (apart-tail first ports apart) offset place clock port) (test first) refl place e where
-  with-first : (rest : (offset place : ℕ) → slice_get (filter test ports) place ≡ Some port → shown cycles stimulus (filter test ports) offset clock port.name ≡ timed port (stimulus (offset + place)) clock cycles (period_of port))
-      → (place : ℕ) → slice_get (first ∷ filter test ports) place ≡ Some port
-      → shown cycles stimulus (first ∷ filter test ports) offset clock port.name ≡ timed port (stimulus (offset + place)) clock cycles (period_of port)
-  with-first rest zero e =
-      let same : first ≡ port = cc e in
-      let own : bytes_eq first.name port.name ≡ true = (bytes_eq-Decides first.name port.name).1 (ap (λ (p : Port). p.name) same) in
-      let zero-off : offset ≡ offset + 0 = omega arith in
-      cond-true (bytes_eq first.name port.name) _ _ own ∙ ap (λ (p : Port). timed p (stimulus offset) clock cycles (period_of p)) same ∙ ap (λ o. timed port (stimulus o) clock cycles (period_of port)) zero-off
-  with-first rest (suc k) e =
-      let there : Contains ports port = (filter-in test ports port (slice-in (filter test ports) k port e)).0 in
-      let other : bytes_eq first.name port.name ≡ false = ⊎_elim (λ t. absurd (apart.at [] first ports refl port there ((bytes_eq-Decides first.name port.name).0 t))) (λ f. f) (cases_Bool (bytes_eq first.name port.name)) in
-      let moved : suc offset + k ≡ offset + suc k = omega arith in
-      cond-false (bytes_eq first.name port.name) _ _ other ∙ rest (suc offset) k e ∙ ap (λ o. timed port (stimulus o) clock cycles (period_of port)) moved
+shown-at cycles stimulus test (first ∷ ports) apart offset place clock port e =
+    by (λ offset place. shown-at cycles stimulus test ports (apart-tail first ports apart) offset place clock port)
+    (test first) refl place e where
+      with-first : (rest : (offset place : ℕ) → slice_get (filter test ports) place ≡ Some port
+          → shown cycles stimulus (filter test ports) offset clock port.name
+          ≡ timed port (stimulus (offset + place)) clock cycles (period_of port))
+          → (place : ℕ) → slice_get (first ∷ filter test ports) place ≡ Some port
+          → shown cycles stimulus (first ∷ filter test ports) offset clock port.name ≡ timed port (stimulus (offset + place)) clock cycles (period_of port)
+      with-first rest zero e =
+          let same : first ≡ port = cc e in
+          let own : bytes_eq first.name port.name ≡ true = (bytes_eq-Decides first.name port.name).1 (ap (λ (p : Port). p.name) same) in
+          let zero-off : offset ≡ offset + 0 = omega arith in
+          cond-true (bytes_eq first.name port.name) _ _ own
+          ∙ ap (λ (p : Port). timed p (stimulus offset) clock cycles (period_of p)) same
+          ∙ ap (λ o. timed port (stimulus o) clock cycles (period_of port)) zero-off
+      with-first rest (suc k) e =
+          let there : Contains ports port = (filter-in test ports port (slice-in (filter test ports) k port e)).0 in
+          let other : bytes_eq first.name port.name ≡ false =
+          ⊎_elim (λ t. absurd (apart.at [] first ports refl port there
+          ((bytes_eq-Decides first.name port.name).0 t))) (λ f. f)
+          (cases_Bool (bytes_eq first.name port.name)) in
+          let moved : suc offset + k ≡ offset + suc k = omega arith in
+          cond-false (bytes_eq first.name port.name) _ _ other ∙ rest (suc offset) k e ∙ ap (λ o. timed port (stimulus o) clock cycles (period_of port)) moved
 
-  by : (rest : (offset place : ℕ) → slice_get (filter test ports) place ≡ Some port → shown cycles stimulus (filter test ports) offset clock port.name ≡ timed port (stimulus (offset + place)) clock cycles (period_of port))
-      → (t : Bool) → test first ≡ t → (place : ℕ) → slice_get (filter test (first ∷ ports)) place ≡ Some port
-      → shown cycles stimulus (filter test (first ∷ ports)) offset clock port.name ≡ timed port (stimulus (offset + place)) clock cycles (period_of port)
-  by rest true s place e =
-      let is : filter test (first ∷ ports) ≡ first ∷ filter test ports = cond-true (test first) (first ∷ filter test ports) (filter test ports) s in
-      subst (λ xs. shown cycles stimulus xs offset clock port.name ≡ timed port (stimulus (offset + place)) clock cycles (period_of port)) (sym is)
-      (with-first rest place (subst (λ xs. slice_get xs place ≡ Some port) is e))
-  by rest false s place e =
-      let is : filter test (first ∷ ports) ≡ filter test ports = cond-false (test first) (first ∷ filter test ports) (filter test ports) s in
-      subst (λ xs. shown cycles stimulus xs offset clock port.name ≡ timed port (stimulus (offset + place)) clock cycles (period_of port)) (sym is)
-      (rest offset place (subst (λ xs. slice_get xs place ≡ Some port) is e))
+      by : (rest : (offset place : ℕ) → slice_get (filter test ports) place ≡ Some port
+          → shown cycles stimulus (filter test ports) offset clock port.name
+          ≡ timed port (stimulus (offset + place)) clock cycles (period_of port))
+          → (t : Bool) → test first ≡ t → (place : ℕ) → slice_get (filter test (first ∷ ports)) place ≡ Some port
+          → shown cycles stimulus (filter test (first ∷ ports)) offset clock port.name ≡ timed port (stimulus (offset + place)) clock cycles (period_of port)
+      by rest true s place e =
+          let is : filter test (first ∷ ports) ≡ first ∷ filter test ports = cond-true (test first) (first ∷ filter test ports) (filter test ports) s in
+          subst (λ xs. shown cycles stimulus xs offset clock port.name ≡ timed port (stimulus (offset + place)) clock cycles (period_of port)) (sym is)
+          (with-first rest place (subst (λ xs. slice_get xs place ≡ Some port) is e))
+      by rest false s place e =
+          let is : filter test (first ∷ ports) ≡ filter test ports = cond-false (test first) (first ∷ filter test ports) (filter test ports) s in
+          subst (λ xs. shown cycles stimulus xs offset clock port.name ≡ timed port (stimulus (offset + place)) clock cycles (period_of port)) (sym is)
+          (rest offset place (subst (λ xs. slice_get xs place ≡ Some port) is e))
 
 module _ (by_layer : ByLayer) (m : Module) (driven : undriven m ≡ None) (once : doubly m ≡ None) (none : (first : List ℕ) (others : List (List ℕ)) → ¬ IsLoop m first others)
     (clocked : no_reset m ≡ None) where

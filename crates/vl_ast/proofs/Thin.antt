@@ -61,9 +61,11 @@ module _ (test : ℕ → Bool) where
     newest (suc many) = if test many then items many else newest many
 
     thin-here : (j : ℕ) → test j ≡ true → thin (suc j) (suc (counted test j)) ≡ items j
-    thin-here j t = cond-true (test j && suc (counted test j) == suc (counted test j)) (items j) (thin j (suc (counted test j))) (both (test j) _ t (eq-eqb (suc (counted test j)) (suc (counted test j)) refl)) where
-      both : (a b : Bool) → a ≡ true → b ≡ true → (a && b) ≡ true
-      both a b e f = rw (e, f) refl
+    thin-here j t = cond-true (test j && suc (counted test j) == suc (counted test j)) (items j)
+        (thin j (suc (counted test j)))
+        (both (test j) _ t (eq-eqb (suc (counted test j)) (suc (counted test j)) refl)) where
+          both : (a b : Bool) → a ≡ true → b ≡ true → (a && b) ≡ true
+          both a b e f = rw (e, f) refl
 
     thin-skip : (j number : ℕ) → (test j ≡ true → number ≡ suc (counted test j) → ⊥) → thin (suc j) number ≡ thin j number
     thin-skip j number other = cond-false (test j && number == suc (counted test j)) (items j) (thin j number) (by (test j) (number == suc (counted test j)) refl refl) where

@@ -1,5 +1,6 @@
 -- The marked number that a text meets first is that of the name that stands first in it.
-use Rattle.std.proofs.Common.{◌≡◌, ◌<◌, ◌≤◌, ◌+◌, inl, inr, ◌⊎◌, ⊎_elim, ℕ, suc, Bool, true, false, not, ◌||◌, if◌then◌else◌, cond, List, [], ◌∷◌, ◌++◌, length, take, drop, set, slice_index, slice_index_or, Contains, Option, None, Some, bytes_eq, codes, refl, sym, ap, subst, ◌∙◌, arith}
+use Rattle.std.proofs.Common.{◌≡◌, ◌<◌, ◌≤◌, ◌+◌, inl, inr, ◌⊎◌, ⊎_elim, ℕ, suc, Bool, true, false, not, ◌||◌, if◌then◌else◌, cond, List, [], ◌∷◌, ◌++◌, length, take, drop, set, slice_index}
+use Rattle.std.proofs.Common.{slice_index_or, Contains, Option, None, Some, bytes_eq, codes, refl, sym, ap, subst, ◌∙◌, arith}
 use Rattle.std.specs.Prelude.{take_while}
 use Rattle.std.specs.Option.{option_or, option_and_then}
 use Rattle.std.specs.List.{prefix_len, IsDistinct}
@@ -52,7 +53,11 @@ module _ (scope : Scope) (apart : IsDistinct bytes_eq (names_in scope)) (marks :
     by None n e = absurd (cc e)
     by (Some j) n e = on (slice_index_or marks j false) refl e where
       on : (t : Bool) → slice_index_or marks j false ≡ t → (if t then Some j else None) ≡ Some k → (slice_index_or marks k false ≡ true) × (name_of scope k ≡ name)
-      on true s e = let same : j ≡ k = cc e in (ap (λ x. slice_index_or marks x false) (sym same) ∙ s, get_or_from_slice_get (names_in scope) k name [] (at-number scope.names.items k name (n ∙ ap Some same)))
+      on true s e = let same : j ≡ k = cc e in (
+        ap (λ x. slice_index_or marks x false) (sym same) ∙ s,
+        get_or_from_slice_get (names_in scope) k name []
+            (at-number scope.names.items k name (n ∙ ap Some same)),
+      )
       on false s e = absurd (cc e)
 
   number-none : (name : List ℕ) (b : ℕ) → Marked b → marked_number scope marks name ≡ None → bytes_eq name (name_of scope b) ≡ false
@@ -79,7 +84,12 @@ module _ (scope : Scope) (apart : IsDistinct bytes_eq (names_in scope)) (marks :
   at-some (Reads name) k e = let r = number-some name k e in (r.0, bytes_same name (name_of scope k) (sym r.1))
   at-some Clocks k e = ⊎_elim
       (λ clk. let r = number-some (codes "clk") k clk in (r.0, ap (λ t. t || bytes_eq (codes "reset") (name_of scope k)) (bytes_same (codes "clk") (name_of scope k) (sym r.1))))
-      (λ reset. let r = number-some (codes "reset") k reset in (r.0, ap (λ t. bytes_eq (codes "clk") (name_of scope k) || t) (bytes_same (codes "reset") (name_of scope k) (sym r.1)) ∙ or-true (bytes_eq (codes "clk") (name_of scope k))))
+      (λ reset. let r = number-some (codes "reset") k reset in (
+        r.0,
+        ap (λ t. bytes_eq (codes "clk") (name_of scope k) || t)
+            (bytes_same (codes "reset") (name_of scope k) (sym r.1))
+            ∙ or-true (bytes_eq (codes "clk") (name_of scope k)),
+      ))
       (or-cases (marked_number scope marks (codes "clk")) (marked_number scope marks (codes "reset")) k e)
 
   at-none : (x : Mention) (b : ℕ) → Marked b → marked_at scope marks x ≡ None → is_mention_of (name_of scope b) x ≡ false
@@ -95,11 +105,15 @@ module _ (scope : Scope) (apart : IsDistinct bytes_eq (names_in scope)) (marks :
   found-marked [] k e = absurd (cc e)
   found-marked (x ∷ xs) k e = ⊎_elim (λ here. (at-some x k here).0) (λ later. found-marked xs k later) (or-cases (marked_at scope marks x) (first_some (marked_at scope marks) xs) k e)
 
-  pub found-first : (all : List Mention) (k b : ℕ) → first_some (marked_at scope marks) all ≡ Some k → k < length (names_in scope) → Marked b → before-first (name_of scope k) all ≤ before-first (name_of scope b) all
+  pub found-first : (all : List Mention) (k b : ℕ) → first_some (marked_at scope marks) all ≡ Some k
+      → k < length (names_in scope) → Marked b
+      → before-first (name_of scope k) all ≤ before-first (name_of scope b) all
   found-first [] k b e low marked = absurd (cc e)
   found-first (x ∷ xs) k b e low marked = by (found-first xs k b) (marked_at scope marks x) refl e where
     by : (first_some (marked_at scope marks) xs ≡ Some k → k < length (names_in scope) → Marked b → before-first (name_of scope k) xs ≤ before-first (name_of scope b) xs)
-        → (o : Option ℕ) → marked_at scope marks x ≡ o → option_or o (first_some (marked_at scope marks) xs) ≡ Some k → before-first (name_of scope k) (x ∷ xs) ≤ before-first (name_of scope b) (x ∷ xs)
+        → (o : Option ℕ) → marked_at scope marks x ≡ o
+        → option_or o (first_some (marked_at scope marks) xs) ≡ Some k
+        → before-first (name_of scope k) (x ∷ xs) ≤ before-first (name_of scope b) (x ∷ xs)
     by rest (Some j) h e =
         let same : j ≡ k = cc e in
         let none = before-none (name_of scope k) x xs (at-some x k (h ∙ ap Some same)).1 in
@@ -129,13 +143,17 @@ module _ (m : Module) (scope : Scope) (s : IsScopeOf m scope) (cycle : List ℕ)
   pub never-none : 0 < length cycle → first_some (marked_at scope marks) (mentions m) ≡ None → ⊥
   never-none some e =
       let x = named.stands 0 some in
-      false≢true (sym (found-none scope s.apart marks (mentions m) (slice_index cycle 0) e (marked.marked 0 some, named.within 0 some) x.0 x.1) ∙ mentions-it (name_of scope (slice_index cycle 0)) x.0 x.2)
+      false≢true (sym (found-none scope s.apart marks (mentions m) (slice_index cycle 0) e
+      (marked.marked 0 some, named.within 0 some) x.0 x.1)
+      ∙ mentions-it (name_of scope (slice_index cycle 0)) x.0 x.2)
 
 -- the first answer over a text, a place further
 pub first-front : {X : Type 0} (f : X → Option ℕ) (xs ys : List X) → first_some f xs ≡ None → first_some f (xs ++ ys) ≡ first_some f ys
 first-front f [] ys e = refl
 first-front f (x ∷ xs) ys e = by (f x) refl e (first-front f xs ys) where
-  by : (o : Option ℕ) → f x ≡ o → option_or o (first_some f xs) ≡ None → (first_some f xs ≡ None → first_some f (xs ++ ys) ≡ first_some f ys) → option_or (f x) (first_some f (xs ++ ys)) ≡ first_some f ys
+  by : (o : Option ℕ) → f x ≡ o → option_or o (first_some f xs) ≡ None
+      → (first_some f xs ≡ None → first_some f (xs ++ ys) ≡ first_some f ys)
+      → option_or (f x) (first_some f (xs ++ ys)) ≡ first_some f ys
   by None h e rest = ap (λ o. option_or o (first_some f (xs ++ ys))) h ∙ rest e
   by (Some k) h e rest = absurd (cc e)
 
@@ -144,7 +162,9 @@ module _ (f : Mention → Option ℕ) (text : List MentionHere) (i : ℕ) (d : M
   cut = ap shown (sym (take-append-drop i text) ∙ ap (λ ys. take i text ++ ys) (drop-cons text i d below)) ∙ map-append mention_of (take i text) (slice_index_or text i d ∷ drop (suc i) text)
 
   pub first-found : (k : ℕ) → f (mention_of (slice_index_or text i d)) ≡ Some k → Some k ≡ first_some f (shown text)
-  first-found k e = sym (ap (first_some f) cut ∙ first-front f (shown (take i text)) (mention_of (slice_index_or text i d) ∷ shown (drop (suc i) text)) none ∙ ap (λ o. option_or o (first_some f (shown (drop (suc i) text)))) e)
+  first-found k e = sym (ap (first_some f) cut
+      ∙ first-front f (shown (take i text)) (mention_of (slice_index_or text i d) ∷ shown (drop (suc i) text)) none
+      ∙ ap (λ o. option_or o (first_some f (shown (drop (suc i) text)))) e)
 
   pub first-passed : f (mention_of (slice_index_or text i d)) ≡ None → first_some f (shown (take (i + 1) text)) ≡ None
   first-passed e =
@@ -152,7 +172,9 @@ module _ (f : Mention → Option ℕ) (text : List MentionHere) (i : ℕ) (d : M
       ∙ first-front f (shown (take i text)) (mention_of (slice_index_or text i d) ∷ []) none ∙ ap (λ o. option_or o None) e
 
 -- marks, a number further
-pub marked-more : (numbers : List ℕ) (i count : ℕ) (marks : List Bool) → i < length numbers → slice_index numbers i < count → AreMarked (take i numbers) count marks → AreMarked (take (i + 1) numbers) count (set marks (slice_index numbers i) true)
+pub marked-more : (numbers : List ℕ) (i count : ℕ) (marks : List Bool) → i < length numbers
+    → slice_index numbers i < count → AreMarked (take i numbers) count marks
+    → AreMarked (take (i + 1) numbers) count (set marks (slice_index numbers i) true)
 marked-more numbers i count marks below low m = record {
   long = length-set marks (slice_index numbers i) true ∙ m.long;
   marked = λ j inside.

@@ -1,5 +1,6 @@
 -- The places of names, as a map has them.
-use Rattle.std.proofs.Common.{◌≡◌, ◌+◌, ℕ, suc, Bool, true, false, cond, if◌then◌else◌, List, [], ◌∷◌, ◌++◌, length, map, slice_get, Option, None, Some, Bor, bytes_eq, refl, sym, ap, ◌∙◌, true≢false, arith}
+use Rattle.std.proofs.Common.{◌≡◌, ◌+◌, ℕ, suc, Bool, true, false, cond, if◌then◌else◌, List, [], ◌∷◌, ◌++◌, length, map, slice_get, Option, None, Some, Bor, bytes_eq, refl, sym, ap, ◌∙◌, true≢false}
+use Rattle.std.proofs.Common.{arith}
 use Rattle.std.specs.Prelude.{◌||◌}
 use Rattle.std.specs.List.{list_any, position, position_from}
 use Rattle.std.specs.BTreeMap.{BTreeMap, Updates, get_by, is_at}
@@ -79,7 +80,9 @@ module _ (names : List (Bor (List ℕ))) (name : Bor (List ℕ)) where
       ∙ by (bytes_eq name.now text) refl
       ∙ sym (position-push (is-name text) names name)
     where
-      by : (t : Bool) → bytes_eq name.now text ≡ t → cond t (Some (length names)) (get_by (λ (key : Bor (List ℕ)). slice_cmp nat_cmp text key.now) by_name) ≡ pushed (bytes_eq text name.now) (length names) (position (is-name text) names)
+      by : (t : Bool) → bytes_eq name.now text ≡ t
+          → cond t (Some (length names)) (get_by (λ (key : Bor (List ℕ)). slice_cmp nat_cmp text key.now) by_name)
+          ≡ pushed (bytes_eq text name.now) (length names) (position (is-name text) names)
       by true e =
           let same : name.now ≡ text = (bytes_eq-Decides name.now text).0 e in
           sym (ap (λ t. pushed t (length names) (position (is-name text) names)) ((bytes_eq-Decides text name.now).1 (sym same))

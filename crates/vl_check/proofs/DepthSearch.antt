@@ -19,7 +19,8 @@ put-last xs x i below new = let l = length-append xs (x ∷ []) in get_or_at xs 
 
 -- one that was not met is opened: the first of all, or the next read of the last open one
 pub opened : (reads : List (List ℕ)) (stage stack order : List ℕ) (x : ℕ) → Walk reads stage stack order → x < length reads → slice_index stage x ≡ 0
-    → ((i : ℕ) → i + 1 ≡ length stack → (slice_index stage (slice_index stack i) ≤ size reads (slice_index stack i)) × (slice_index (row_at reads (slice_index stack i)) (slice_index stage (slice_index stack i) - 1) ≡ x))
+    → ((i : ℕ) → i + 1 ≡ length stack → (slice_index stage (slice_index stack i) ≤ size reads (slice_index stack i))
+    × (slice_index (row_at reads (slice_index stack i)) (slice_index stage (slice_index stack i) - 1) ≡ x))
     → Walk reads (set stage x 1) (stack ++ x ∷ []) order
 opened reads stage stack order x w within white top = record {
   long = length-set stage x 1 ∙ w.long;
@@ -48,18 +49,29 @@ opened reads stage stack order x w within white top = record {
     same : (i : ℕ) → i < length stack → slice_index (set stage x 1) (slice_index stack i) ≡ slice_index stage (slice_index stack i)
     same i old = other-stage stage x 1 (slice_index stack i) (not-x i old)
 
-    old-open : (i : ℕ) → i < length stack → (slice_index (stack ++ x ∷ []) i < length reads) × (1 ≤ slice_index (set stage x 1) (slice_index (stack ++ x ∷ []) i)) × (slice_index (set stage x 1) (slice_index (stack ++ x ∷ []) i) ≤ size reads (slice_index (stack ++ x ∷ []) i) + 1)
+    old-open : (i : ℕ) → i < length stack → (slice_index (stack ++ x ∷ []) i < length reads)
+        × (1 ≤ slice_index (set stage x 1) (slice_index (stack ++ x ∷ []) i))
+        × (slice_index (set stage x 1) (slice_index (stack ++ x ∷ []) i)
+        ≤ size reads (slice_index (stack ++ x ∷ []) i) + 1)
     old-open i old = rw (still-there stack x i old, same i old) (w.open' i old)
 
-    new-open : (i : ℕ) → i < length (stack ++ x ∷ []) → length stack ≤ i → (slice_index (stack ++ x ∷ []) i < length reads) × (1 ≤ slice_index (set stage x 1) (slice_index (stack ++ x ∷ []) i)) × (slice_index (set stage x 1) (slice_index (stack ++ x ∷ []) i) ≤ size reads (slice_index (stack ++ x ∷ []) i) + 1)
+    new-open : (i : ℕ) → i < length (stack ++ x ∷ []) → length stack ≤ i
+        → (slice_index (stack ++ x ∷ []) i < length reads)
+        × (1 ≤ slice_index (set stage x 1) (slice_index (stack ++ x ∷ []) i))
+        × (slice_index (set stage x 1) (slice_index (stack ++ x ∷ []) i)
+        ≤ size reads (slice_index (stack ++ x ∷ []) i) + 1)
     new-open i below new = rw (put-last stack x i below new, own-stage stage x 1 (omega (arith, w.long, within))) (within, omega arith, omega arith)
 
-    old-passed : (i k : ℕ) → i < length stack → k + 1 < slice_index (set stage x 1) (slice_index (stack ++ x ∷ []) i) → Done reads (set stage x 1) (slice_index (row_at reads (slice_index (stack ++ x ∷ []) i)) k)
+    old-passed : (i k : ℕ) → i < length stack
+        → k + 1 < slice_index (set stage x 1) (slice_index (stack ++ x ∷ []) i)
+        → Done reads (set stage x 1) (slice_index (row_at reads (slice_index (stack ++ x ∷ []) i)) k)
     old-passed i k old under =
         let u = subst (λ n. k + 1 < n) (ap (slice_index (set stage x 1)) (still-there stack x i old) ∙ same i old) under in
         rw (still-there stack x i old) (still-done reads stage x 1 (slice_index (row_at reads (slice_index stack i)) k) unplaced (w.passed i k old u))
 
-    new-passed : (i k : ℕ) → i < length (stack ++ x ∷ []) → length stack ≤ i → k + 1 < slice_index (set stage x 1) (slice_index (stack ++ x ∷ []) i) → Done reads (set stage x 1) (slice_index (row_at reads (slice_index (stack ++ x ∷ []) i)) k)
+    new-passed : (i k : ℕ) → i < length (stack ++ x ∷ []) → length stack ≤ i
+        → k + 1 < slice_index (set stage x 1) (slice_index (stack ++ x ∷ []) i)
+        → Done reads (set stage x 1) (slice_index (row_at reads (slice_index (stack ++ x ∷ []) i)) k)
     new-passed i k below new under =
         let u = subst (λ n. k + 1 < n) (ap (slice_index (set stage x 1)) (put-last stack x i below new) ∙ own-stage stage x 1 (omega (arith, w.long, within))) under in
         absurd (omega (arith, u))
@@ -132,10 +144,17 @@ advanced reads stage stack order top v w end is room seen = record {
     at-top : (i : ℕ) → i < length stack → top ≤ i → slice_index stack i ≡ v
     at-top i below over = let e : i ≡ top = omega (arith, end) in ap (slice_index stack) e ∙ is
 
-    new-open : (i : ℕ) → slice_index stack i ≡ v → (slice_index stack i < length reads) × (1 ≤ slice_index (set stage v (slice_index stage v + 1)) (slice_index stack i)) × (slice_index (set stage v (slice_index stage v + 1)) (slice_index stack i) ≤ size reads (slice_index stack i) + 1)
+    new-open : (i : ℕ) → slice_index stack i ≡ v
+        → (slice_index stack i < length reads)
+        × (1 ≤ slice_index (set stage v (slice_index stage v + 1)) (slice_index stack i))
+        × (slice_index (set stage v (slice_index stage v + 1)) (slice_index stack i)
+        ≤ size reads (slice_index stack i) + 1)
     new-open i e = rw (e, own) (low, omega arith, omega (arith, room))
 
-    new-passed : (i k : ℕ) → slice_index stack i ≡ v → k + 1 < slice_index (set stage v (slice_index stage v + 1)) (slice_index stack i) → Done reads (set stage v (slice_index stage v + 1)) (slice_index (row_at reads (slice_index stack i)) k)
+    new-passed : (i k : ℕ) → slice_index stack i ≡ v
+        → k + 1 < slice_index (set stage v (slice_index stage v + 1)) (slice_index stack i)
+        → Done reads (set stage v (slice_index stage v + 1))
+        (slice_index (row_at reads (slice_index stack i)) k)
     new-passed i k e under =
         let u : k + 1 < slice_index stage v + 1 = subst (λ n. k + 1 < n) (ap (slice_index (set stage v (slice_index stage v + 1))) e ∙ own) under in
         rw e (still-done reads stage v (slice_index stage v + 1) (slice_index (row_at reads v) k) unplaced (⊎_elim
@@ -156,7 +175,9 @@ closed reads stage rest order v w full = record {
       (λ old. rw (still-there order v p old) (still-done reads stage v (size reads v + 2) (slice_index order p) unplaced (w.placed p old)))
       (λ new. rw (put-last order v p below new) (record { within = low; last = own }))
       (cases_lt p (length order));
-  once = λ p q less below. ⊎_elim (λ old e. w.once p q less old (sym (still-there order v p (omega arith)) ∙ e ∙ still-there order v q old)) (λ new. new-once p q less below new) (cases_lt q (length order));
+  once = λ p q less below. ⊎_elim (λ old e. w.once p q less old
+      (sym (still-there order v p (omega arith)) ∙ e ∙ still-there order v q old))
+      (λ new. new-once p q less below new) (cases_lt q (length order));
   earlier = λ p k below under. ⊎_elim (λ old. old-earlier p k old under) (λ new. new-earlier p k below new under) (cases_lt p (length order));
   open' = λ i below. rw (same i below) (subst (λ u. (u < length reads) × (1 ≤ slice_index stage u) × (slice_index stage u ≤ size reads u + 1)) (front i below) (w.open' i (longer i below)));
   passed = λ i k below under. still-done reads stage v (size reads v + 2) (slice_index (row_at reads (slice_index rest i)) k) unplaced
@@ -193,13 +214,18 @@ closed reads stage rest order v w full = record {
     same : (i : ℕ) → i < length rest → slice_index (set stage v (size reads v + 2)) (slice_index rest i) ≡ slice_index stage (slice_index rest i)
     same i below = other-stage stage v (size reads v + 2) (slice_index rest i) (not-v i below)
 
-    old-earlier : (p k : ℕ) → p < length order → k < size reads (slice_index (order ++ v ∷ []) p) → (q : ℕ) × (q < p) × (slice_index (order ++ v ∷ []) q ≡ slice_index (row_at reads (slice_index (order ++ v ∷ []) p)) k)
+    old-earlier : (p k : ℕ) → p < length order → k < size reads (slice_index (order ++ v ∷ []) p)
+        → (q : ℕ) × (q < p)
+        × (slice_index (order ++ v ∷ []) q ≡ slice_index (row_at reads (slice_index (order ++ v ∷ []) p)) k)
     old-earlier p k old under =
         let e = w.earlier p k old (subst (λ u. k < size reads u) (still-there order v p old) under) in
         let b : e.0 < length order = let s = e.1 in omega (arith, s) in
         (e.0, e.1, still-there order v e.0 b ∙ e.2 ∙ ap (λ u. slice_index (row_at reads u) k) (sym (still-there order v p old)))
 
-    new-earlier : (p k : ℕ) → p < length (order ++ v ∷ []) → length order ≤ p → k < size reads (slice_index (order ++ v ∷ []) p) → (q : ℕ) × (q < p) × (slice_index (order ++ v ∷ []) q ≡ slice_index (row_at reads (slice_index (order ++ v ∷ []) p)) k)
+    new-earlier : (p k : ℕ) → p < length (order ++ v ∷ []) → length order ≤ p
+        → k < size reads (slice_index (order ++ v ∷ []) p)
+        → (q : ℕ) × (q < p) × (slice_index (order ++ v ∷ []) q
+        ≡ slice_index (row_at reads (slice_index (order ++ v ∷ []) p)) k)
     new-earlier p k below new under =
         let u : k < size reads v = subst (λ u. k < size reads u) (put-last order v p below new) under in
         let d0 = w.passed (length rest) k (let l = size-rest in omega (arith, l)) (subst (λ t. k + 1 < slice_index stage t) (sym back) (omega (arith, u, full))) in
@@ -264,7 +290,9 @@ cycle-found reads stage stack order top at w end low room reads-it = record {
     inside : (i : ℕ) → i < length (drop at stack) → at + i < length stack
     inside i below = let l = long in omega (arith, l)
 
-    read : (i : ℕ) → i < length stack → slice_index stage (slice_index stack i) ≤ size reads (slice_index stack i) → Contains (row_at reads (slice_index stack i)) (slice_index (row_at reads (slice_index stack i)) (slice_index stage (slice_index stack i) - 1))
+    read : (i : ℕ) → i < length stack → slice_index stage (slice_index stack i) ≤ size reads (slice_index stack i)
+        → Contains (row_at reads (slice_index stack i))
+        (slice_index (row_at reads (slice_index stack i)) (slice_index stage (slice_index stack i) - 1))
     read i below fits = let o = (w.open' i below).1 in Contains-get_or (row_at reads (slice_index stack i)) (slice_index stage (slice_index stack i) - 1) 0 (omega (arith, o, fits))
 
     next : (i : ℕ) → i < length (drop at stack) → Contains (row_at reads (slice_index (drop at stack) i)) (slice_index (drop at stack) ((i + 1) % (length stack - at)))
@@ -273,12 +301,16 @@ cycle-found reads stage stack order top at w end low room reads-it = record {
         let h = w.linked (at + i) (let l = long in omega (arith, l, less)) in
         let m : (i + 1) % (length stack - at) ≡ i + 1 = mod-eq_of_lt less in
         let j : at + (i + 1) ≡ at + i + 1 = omega arith in
-        rw (here i) (subst (λ x. Contains (row_at reads (slice_index stack (at + i))) x) (h.1 ∙ ap (slice_index stack) (sym j) ∙ sym (here (i + 1)) ∙ ap (slice_index (drop at stack)) (sym m)) (read (at + i) (inside i below) h.0)))
+        rw (here i) (subst (λ x. Contains (row_at reads (slice_index stack (at + i))) x)
+        (h.1 ∙ ap (slice_index stack) (sym j) ∙ sym (here (i + 1)) ∙ ap (slice_index (drop at stack)) (sym m))
+        (read (at + i) (inside i below) h.0)))
         (λ more.
         let b = inside i below in
         let e : i + 1 ≡ length stack - at = let l = long in omega (arith, l, b, more) in
         let t : at + i ≡ top = omega (arith, e, end, low) in
         let m : (i + 1) % (length stack - at) ≡ 0 = ap (λ n. n % (length stack - at)) e ∙ mod_self (length stack - at) in
         let z : at + 0 ≡ at = omega arith in
-        rw (here i, t) (subst (λ x. Contains (row_at reads (slice_index stack top)) x) (reads-it ∙ ap (slice_index stack) (sym z) ∙ sym (here 0) ∙ ap (slice_index (drop at stack)) (sym m)) (read top (omega (arith, end)) room)))
+        rw (here i, t) (subst (λ x. Contains (row_at reads (slice_index stack top)) x)
+        (reads-it ∙ ap (slice_index stack) (sym z) ∙ sym (here 0) ∙ ap (slice_index (drop at stack)) (sym m))
+        (read top (omega (arith, end)) room)))
         (cases_lt (i + 1) (length stack - at))

@@ -29,12 +29,15 @@ names-concat : (parts : List Expr) → names_read (Concat parts) ≡ flat_map na
 names-concat parts = ap names_read (sym (rolls-Concat parts)) ∙ fold-roll-Expr (List (List ℕ)) names_step (Expr-F.Concat parts) ∙ flat-map parts
 
 -- what is made of the items of a list, an item further
-pub mapped-further : {A B : Type 0} (f : A → B) (items xs : List A) (i : ℕ) (x : A) → items ≡ xs → i < length items → x ≡ slice_index_or items i x → map f (take (i + 1) xs) ≡ map f (take i xs) ++ f x ∷ []
+pub mapped-further : {A B : Type 0} (f : A → B) (items xs : List A) (i : ℕ) (x : A) → items ≡ xs → i < length items
+    → x ≡ slice_index_or items i x → map f (take (i + 1) xs) ≡ map f (take i xs) ++ f x ∷ []
 mapped-further f items xs i x are below is =
     subst (λ ys. map f (take (i + 1) ys) ≡ map f (take i ys) ++ f x ∷ []) are
     (map_more f items i x below ∙ ap (λ y. map f (take i items) ++ f y ∷ []) (sym is))
 
-pub joined-further : {A B : Type 0} (f : A → List B) (old : List B) (items xs : List A) (i : ℕ) (x : A) → items ≡ xs → i < length items → x ≡ slice_index_or items i x → (old ++ flat_map f (take i xs)) ++ f x ≡ old ++ flat_map f (take (i + 1) xs)
+pub joined-further : {A B : Type 0} (f : A → List B) (old : List B) (items xs : List A) (i : ℕ) (x : A) → items ≡ xs
+    → i < length items → x ≡ slice_index_or items i x
+    → (old ++ flat_map f (take i xs)) ++ f x ≡ old ++ flat_map f (take (i + 1) xs)
 joined-further f old items xs i x are below is =
     subst (λ ys. (old ++ flat_map f (take i ys)) ++ f x ≡ old ++ flat_map f (take (i + 1) ys)) are
     (flat_map_more f old (take i items) x ∙ ap (λ ys. old ++ flat_map f ys) (sym (take_more items i x below ∙ ap (λ y. take i items ++ y ∷ []) (sym is))))
@@ -76,11 +79,15 @@ reads-part name high low e is put = puts-of e (Part name high low) is (ap names_
 pub reads-literal : (old : Mentions) (number : Sized) (e : Expr) → e ≡ Literal number → Puts old old (map Reads (names_read e))
 reads-literal old number e is = puts-of e (Literal number) is (ap names_read (sym (rolls-Literal number)) ∙ fold-roll-Expr (List (List ℕ)) names_step (Expr-F.Literal number)) (none-put old)
 
-pub reads-binary : {old mid new : Mentions} (op : BinOp) (l r e : Expr) → e ≡ Binary op l r → Puts old mid (map Reads (names_read l)) → Puts mid new (map Reads (names_read r)) → Puts old new (map Reads (names_read e))
+pub reads-binary : {old mid new : Mentions} (op : BinOp) (l r e : Expr) → e ≡ Binary op l r
+    → Puts old mid (map Reads (names_read l)) → Puts mid new (map Reads (names_read r))
+    → Puts old new (map Reads (names_read e))
 reads-binary op l r e is first second =
     puts-of e (Binary op l r) is (names-binary op l r) (puts-as (sym (map-append Reads (names_read l) (names_read r))) (both first second))
 
-pub reads-choose : {old one two new : Mentions} (t c o e : Expr) → e ≡ Choose t c o → Puts old one (map Reads (names_read t)) → Puts one two (map Reads (names_read c)) → Puts two new (map Reads (names_read o))
+pub reads-choose : {old one two new : Mentions} (t c o e : Expr) → e ≡ Choose t c o
+    → Puts old one (map Reads (names_read t)) → Puts one two (map Reads (names_read c))
+    → Puts two new (map Reads (names_read o))
     → Puts old new (map Reads (names_read e))
 reads-choose t c o e is first second third =
     puts-of e (Choose t c o) is (names-choose t c o) (puts-as
@@ -95,7 +102,9 @@ part-more items i part got below is same before put =
     (ap (λ (x : Expr). flat_map names_read (take i items) ++ names_read x) same ∙ joined-further names_read [] items items i part refl below is))
     (both before put)
 
-pub reads-concat : {old new : Mentions} (parts items : List Expr) (i : ℕ) (e : Expr) → e ≡ Concat parts → items ≡ parts → length items ≤ i → Puts old new (map Reads (flat_map names_read (take i items))) → Puts old new (map Reads (names_read e))
+pub reads-concat : {old new : Mentions} (parts items : List Expr) (i : ℕ) (e : Expr) → e ≡ Concat parts
+    → items ≡ parts → length items ≤ i → Puts old new (map Reads (flat_map names_read (take i items)))
+    → Puts old new (map Reads (names_read e))
 reads-concat parts items i e is are past put =
     puts-of e (Concat parts) is (names-concat parts) (puts-as (ap (λ (xs : List Expr). map Reads (flat_map names_read xs)) (take_all i items past ∙ are)) put)
 

@@ -1,5 +1,6 @@
 -- The shape of each form of expression from those of its operands.
-use Rattle.std.proofs.Common.{◌≡◌, ◌<◌, ◌≤◌, ◌+◌, ◌-◌, ◌*◌, ◌^◌, ℕ, max, sum, Bool, true, false, ◌&&◌, if◌then◌else◌, nat_le, nat_lt, List, [], ◌∷◌, ◌++◌, length, map, take, drop, slice_index_or, Option, None, Some, refl, sym, ap, ◌∙◌, arith}
+use Rattle.std.proofs.Common.{◌≡◌, ◌<◌, ◌≤◌, ◌+◌, ◌-◌, ◌*◌, ◌^◌, ℕ, max, sum, Bool, true, false, ◌&&◌, if◌then◌else◌, nat_le, nat_lt, List, [], ◌∷◌, ◌++◌, length, map, take, drop, slice_index_or}
+use Rattle.std.proofs.Common.{Option, None, Some, refl, sym, ap, ◌∙◌, arith}
 use Rattle.std.specs.Option.{option_map, option_and_then}
 use Rattle.std.specs.List.{list_all}
 use Rattle.std.proofs.lemmas.Bool.{and_parts, leb-true, le-leb, lt-leb}
@@ -13,7 +14,8 @@ use Rattle.vl_ast.specs.declared.expressions.Sized.{Sized}
 use Rattle.vl_ast.specs.declared.expressions.Expr.{Expr}
 use Rattle.vl_ast.specs.declared.expressions.Expr.TheOpen.{Expr-F}
 use Rattle.vl_ast.specs.declared.expressions.Expr.TheViews.{roll-Expr}
-use Rattle.vl_ast.specs.declared.expressions.Expr.TheVariants.{Name, Bit, Part, Literal, Concat, Repeat, AsSigned, AsUnsigned, Unary, Binary, Shift, Choose, rolls-Name, rolls-Bit, rolls-Part, rolls-Literal, rolls-Concat, rolls-Repeat, rolls-AsSigned, rolls-AsUnsigned, rolls-Unary, rolls-Binary, rolls-Shift, rolls-Choose}
+use Rattle.vl_ast.specs.declared.expressions.Expr.TheVariants.{Name, Bit, Part, Literal, Concat, Repeat, AsSigned, AsUnsigned, Unary, Binary, Shift, Choose, rolls-Name, rolls-Bit, rolls-Part}
+use Rattle.vl_ast.specs.declared.expressions.Expr.TheVariants.{rolls-Literal, rolls-Concat, rolls-Repeat, rolls-AsSigned, rolls-AsUnsigned, rolls-Unary, rolls-Binary, rolls-Shift, rolls-Choose}
 use Rattle.vl_ast.specs.declared.expressions.Expr.TheFolds.{map-Expr, para-Expr, para-roll-Expr, fold-roll-Expr}
 use Rattle.vl_ast.specs.Context.{Net, Place, InWhole, Together, Alone, own_length, length_step, is_signed, sign_step, length_at, sign_at, unary_place, binary_place}
 use Rattle.vl_ast.specs.Conditions.{is_number, is_sound, is_sound_step, is_narrow}
@@ -107,7 +109,9 @@ module _ (nets : List ℕ → Net) where
 
   -- one operand
   one-part : (part : Expr) (more : Bool) (f : ℕ → ℕ) (g : Bool → Bool) → ((n : ℕ) → n ≤ 128 → f n ≤ 128) → (o : Option Shape) → shape_in nets part ≡ o
-      → when ((is_sound nets part && more) && nat_le (f (own_length nets part)) 128) (f (own_length nets part)) (g (is_signed nets part)) ≡ (if more then option_map (λ s. shape_of (f s.length) (g s.signed)) o else None)
+      → when ((is_sound nets part && more) && nat_le (f (own_length nets part)) 128) (f (own_length nets part))
+      (g (is_signed nets part))
+      ≡ (if more then option_map (λ s. shape_of (f s.length) (g s.signed)) o else None)
   one-part part more f g few None h = (λ i. when ((unsound nets part h i && more) && nat_le (f (own_length nets part)) 128) (f (own_length nets part)) (g (is_signed nets part))) ∙ none more where
     none : (t : Bool) → ◌≡◌ {A = Option Shape} None (if t then None else None)
     none true = refl
@@ -120,7 +124,9 @@ module _ (nets : List ℕ → Net) where
 
   pub shape-unary : (op : UnOp) (part : Expr) (o : Option Shape) → shape_in nets part ≡ o → shape_in nets (Unary op part) ≡ option_map (unary_shape op) o
   shape-unary op part o h = ap (shape_in nets) (sym (rolls-Unary op part)) ∙ rolled nets (Expr-F.Unary op part)
-      ∙ ap (λ t. when (t && nat_le (length_at (unary_place op) (own_length nets part)) 128) (length_at (unary_place op) (own_length nets part)) (sign_at (unary_place op) (is_signed nets part))) (sym (and-true (is_sound nets part)))
+      ∙ ap (λ t. when (t && nat_le (length_at (unary_place op) (own_length nets part)) 128)
+      (length_at (unary_place op) (own_length nets part)) (sign_at (unary_place op) (is_signed nets part)))
+      (sym (and-true (is_sound nets part)))
       ∙ one-part part true (length_at (unary_place op)) (sign_at (unary_place op)) (place-few (unary_place op)) o h
 
   pub shape-as-signed : (part : Expr) (o : Option Shape) → shape_in nets part ≡ o → shape_in nets (AsSigned part) ≡ option_map (λ s. shape_of s.length true) o
@@ -141,9 +147,14 @@ module _ (nets : List ℕ → Net) where
   shape-shift op part amount o h = ap (shape_in nets) (sym (rolls-Shift op part amount)) ∙ rolled nets (Expr-F.Shift op part amount)
       ∙ one-part part (is_number amount) (λ n. n) (λ t. t) (λ n le. le) o h ∙ ap (λ x. if is_number amount then x else None) (same-shape o)
 
-  pub shape-repeat : (count : ℕ) (part : Expr) (o : Option Shape) → shape_in nets part ≡ o → shape_in nets (Repeat count part) ≡ (if nat_lt 0 count then option_and_then (λ s. narrow (count * s.length) false) o else None)
+  pub shape-repeat : (count : ℕ) (part : Expr) (o : Option Shape) → shape_in nets part ≡ o
+      → shape_in nets (Repeat count part)
+      ≡ (if nat_lt 0 count then option_and_then (λ s. narrow (count * s.length) false) o else None)
   shape-repeat count part o h = ap (shape_in nets) (sym (rolls-Repeat count part)) ∙ rolled nets (Expr-F.Repeat count part) ∙ by (nat_lt 0 count) o h where
-    by : (t : Bool) (o : Option Shape) → shape_in nets part ≡ o → when ((t && is_sound nets part) && nat_le (count * own_length nets part) 128) (count * own_length nets part) false ≡ (if t then option_and_then (λ s. narrow (count * s.length) false) o else None)
+    by : (t : Bool) (o : Option Shape) → shape_in nets part ≡ o
+        → when ((t && is_sound nets part) && nat_le (count * own_length nets part) 128)
+        (count * own_length nets part) false
+        ≡ (if t then option_and_then (λ s. narrow (count * s.length) false) o else None)
     by false o h = refl
     by true None h = (λ i. when (unsound nets part h i && nat_le (count * own_length nets part) 128) (count * own_length nets part) false)
     by true (Some s) h = let k = known nets part s h in (λ i. when (k.sound i && nat_le (count * k.length i) 128) (count * k.length i) false)
@@ -155,8 +166,14 @@ module _ (nets : List ℕ → Net) where
       let fl = kl.few in let fr = kr.few in
       let most : max l.length r.length ≤ 128 = omega arith in
       ap (shape_in nets) (sym (rolls-Binary op left right)) ∙ rolled nets (Expr-F.Binary op left right)
-      ∙ (λ i. when ((kl.sound i && kr.sound i) && nat_le (length_at (binary_place op) (max (kl.length i) (kr.length i))) 128) (length_at (binary_place op) (max (kl.length i) (kr.length i))) (sign_at (binary_place op) (kl.sign i && kr.sign i)))
-      ∙ ap (λ t. when t (length_at (binary_place op) (max l.length r.length)) (sign_at (binary_place op) (l.signed && r.signed))) (le-leb (length_at (binary_place op) (max l.length r.length)) 128 (place-few (binary_place op) (max l.length r.length) most))
+      ∙ (λ i. when ((kl.sound i && kr.sound i)
+      && nat_le (length_at (binary_place op) (max (kl.length i) (kr.length i))) 128)
+      (length_at (binary_place op) (max (kl.length i) (kr.length i)))
+      (sign_at (binary_place op) (kl.sign i && kr.sign i)))
+      ∙ ap (λ t. when t (length_at (binary_place op) (max l.length r.length))
+      (sign_at (binary_place op) (l.signed && r.signed)))
+      (le-leb (length_at (binary_place op) (max l.length r.length)) 128
+      (place-few (binary_place op) (max l.length r.length) most))
 
   and-false : (c : Bool) → (c && false) ≡ false
   and-false true = refl
@@ -165,17 +182,24 @@ module _ (nets : List ℕ → Net) where
   pub shape-binary-left : (op : BinOp) (left right : Expr) → shape_in nets left ≡ None → shape_in nets (Binary op left right) ≡ None
   shape-binary-left op left right hl =
       ap (shape_in nets) (sym (rolls-Binary op left right)) ∙ rolled nets (Expr-F.Binary op left right)
-      ∙ (λ i. when ((unsound nets left hl i && is_sound nets right) && nat_le (length-at nets (Expr-F.Binary op left right)) 128) (length-at nets (Expr-F.Binary op left right)) (sign-at nets (Expr-F.Binary op left right)))
+      ∙ (λ i. when ((unsound nets left hl i && is_sound nets right)
+      && nat_le (length-at nets (Expr-F.Binary op left right)) 128)
+      (length-at nets (Expr-F.Binary op left right)) (sign-at nets (Expr-F.Binary op left right)))
 
   pub shape-binary-right : (op : BinOp) (left right : Expr) → shape_in nets right ≡ None → shape_in nets (Binary op left right) ≡ None
   shape-binary-right op left right hr =
       ap (shape_in nets) (sym (rolls-Binary op left right)) ∙ rolled nets (Expr-F.Binary op left right)
-      ∙ (λ i. when ((is_sound nets left && unsound nets right hr i) && nat_le (length-at nets (Expr-F.Binary op left right)) 128) (length-at nets (Expr-F.Binary op left right)) (sign-at nets (Expr-F.Binary op left right)))
-      ∙ ap (λ t. when (t && nat_le (length-at nets (Expr-F.Binary op left right)) 128) (length-at nets (Expr-F.Binary op left right)) (sign-at nets (Expr-F.Binary op left right))) (and-false (is_sound nets left))
+      ∙ (λ i. when ((is_sound nets left && unsound nets right hr i)
+      && nat_le (length-at nets (Expr-F.Binary op left right)) 128)
+      (length-at nets (Expr-F.Binary op left right)) (sign-at nets (Expr-F.Binary op left right)))
+      ∙ ap (λ t. when (t && nat_le (length-at nets (Expr-F.Binary op left right)) 128)
+      (length-at nets (Expr-F.Binary op left right)) (sign-at nets (Expr-F.Binary op left right)))
+      (and-false (is_sound nets left))
 
   -- a choice
   abbrev choice-when : Expr → Expr → Expr → Bool → Option Shape
-  choice-when test chosen other t = when (t && nat_le (length-at nets (Expr-F.Choose test chosen other)) 128) (length-at nets (Expr-F.Choose test chosen other)) (sign-at nets (Expr-F.Choose test chosen other))
+  choice-when test chosen other t = when (t && nat_le (length-at nets (Expr-F.Choose test chosen other)) 128)
+      (length-at nets (Expr-F.Choose test chosen other)) (sign-at nets (Expr-F.Choose test chosen other))
 
   choice-unsound : (test chosen other : Expr) → (is_sound nets test && is_sound nets chosen && is_sound nets other) ≡ false → shape_in nets (Choose test chosen other) ≡ None
   choice-unsound test chosen other f = ap (shape_in nets) (sym (rolls-Choose test chosen other)) ∙ rolled nets (Expr-F.Choose test chosen other) ∙ ap (choice-when test chosen other) f
@@ -184,10 +208,14 @@ module _ (nets : List ℕ → Net) where
   shape-choose-test test chosen other h = choice-unsound test chosen other (λ i. unsound nets test h i && is_sound nets chosen && is_sound nets other)
 
   pub shape-choose-chosen : (test chosen other : Expr) → shape_in nets chosen ≡ None → shape_in nets (Choose test chosen other) ≡ None
-  shape-choose-chosen test chosen other h = choice-unsound test chosen other ((λ i. is_sound nets test && unsound nets chosen h i && is_sound nets other) ∙ ap (λ t. t && is_sound nets other) (and-false (is_sound nets test)))
+  shape-choose-chosen test chosen other h =
+      choice-unsound test chosen other ((λ i. is_sound nets test && unsound nets chosen h i && is_sound nets other)
+      ∙ ap (λ t. t && is_sound nets other) (and-false (is_sound nets test)))
 
   pub shape-choose-other : (test chosen other : Expr) → shape_in nets other ≡ None → shape_in nets (Choose test chosen other) ≡ None
-  shape-choose-other test chosen other h = choice-unsound test chosen other ((λ i. is_sound nets test && is_sound nets chosen && unsound nets other h i) ∙ and-false (is_sound nets test && is_sound nets chosen))
+  shape-choose-other test chosen other h =
+      choice-unsound test chosen other ((λ i. is_sound nets test && is_sound nets chosen && unsound nets other h i)
+      ∙ and-false (is_sound nets test && is_sound nets chosen))
 
   pub shape-choose : (test chosen other : Expr) (t c o : Shape) → shape_in nets test ≡ Some t → shape_in nets chosen ≡ Some c → shape_in nets other ≡ Some o
       → shape_in nets (Choose test chosen other) ≡ Some (shape_of (max c.length o.length) (c.signed && o.signed))
@@ -217,14 +245,18 @@ module _ (nets : List ℕ → Net) where
   concat-unsound parts h = concat-rolled parts ∙ ap (λ t. when (t && nat_le (lengths parts) 128) (lengths parts) false) h
 
   pub concat-long : (parts : List Expr) → 128 < lengths parts → shape_in nets (Concat parts) ≡ None
-  concat-long parts h = concat-rolled parts ∙ ap (λ t. when (list_all (is_sound nets) parts && t) (lengths parts) false) (lt-leb (lengths parts) 128 h) ∙ ap (λ t. when t (lengths parts) false) (and-false (list_all (is_sound nets) parts))
+  concat-long parts h = concat-rolled parts
+      ∙ ap (λ t. when (list_all (is_sound nets) parts && t) (lengths parts) false) (lt-leb (lengths parts) 128 h)
+      ∙ ap (λ t. when t (lengths parts) false) (and-false (list_all (is_sound nets) parts))
 
   pub shape-two : (op : BinOp) (left right : Expr) (l r : Option Shape) → shape_in nets left ≡ l → shape_in nets right ≡ r → shape_in nets (Binary op left right) ≡ with_both (binary_shape op) l r
   shape-two op left right None r hl hr = shape-binary-left op left right hl
   shape-two op left right (Some l) None hl hr = shape-binary-right op left right hr
   shape-two op left right (Some l) (Some r) hl hr = shape-binary op left right l r hl hr
 
-  pub shape-three : (test chosen other : Expr) (t c o : Option Shape) → shape_in nets test ≡ t → shape_in nets chosen ≡ c → shape_in nets other ≡ o → shape_in nets (Choose test chosen other) ≡ choice_shape t c o
+  pub shape-three : (test chosen other : Expr) (t c o : Option Shape) → shape_in nets test ≡ t
+      → shape_in nets chosen ≡ c → shape_in nets other ≡ o
+      → shape_in nets (Choose test chosen other) ≡ choice_shape t c o
   shape-three test chosen other None c o ht hc ho = shape-choose-test test chosen other ht
   shape-three test chosen other (Some t) None o ht hc ho = shape-choose-chosen test chosen other hc
   shape-three test chosen other (Some t) (Some c) None ht hc ho = shape-choose-other test chosen other ho

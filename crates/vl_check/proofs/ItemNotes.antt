@@ -1,5 +1,6 @@
 -- One more item is noted.
-use Rattle.std.proofs.Common.{◌≡◌, ◌<◌, ◌≤◌, ◌+◌, inl, inr, ◌⊎◌, ⊎_elim, ℕ, List, [], ◌∷◌, ◌++◌, length, map, set, take, replicate, slice_get, slice_index_or, Option, None, Some, refl, sym, ap, subst, ◌∙◌, arith}
+use Rattle.std.proofs.Common.{◌≡◌, ◌<◌, ◌≤◌, ◌+◌, inl, inr, ◌⊎◌, ⊎_elim, ℕ, List, [], ◌∷◌, ◌++◌, length, map, set, take, replicate, slice_get, slice_index_or, Option, None, Some, refl, sym, ap, subst}
+use Rattle.std.proofs.Common.{◌∙◌, arith}
 use Rattle.std.specs.Option.{unwrap_or}
 use Rattle.std.proofs.lemmas.Bool.{cases_lt, cases_eq}
 use Rattle.std.proofs.lemmas.Option.{slice_get_within, slice_get-get_or, get_or_from_slice_get}
@@ -64,7 +65,9 @@ module _ (scope : Scope) where
     reads_long = n.reads_long;
     noted = λ v j e. still-noted passed item reads v j (n.noted v j e);
     none = n.none;
-    some = λ j v name value e k. ⊎_elim (λ old. n.some j v name value old k) (λ (new : (j ≡ length passed) × (item ≡ Assign name value)). absurd (no_assign name value new.1)) (back-or-front passed item j (Assign name value) e);
+    some = λ j v name value e k. ⊎_elim (λ old. n.some j v name value old k)
+        (λ (new : (j ≡ length passed) × (item ≡ Assign name value)). absurd (no_assign name value new.1))
+        (back-or-front passed item j (Assign name value) e);
   }
 
   -- an assignment of a name that has a number
@@ -104,7 +107,9 @@ module _ (scope : Scope) where
             row = ap (row_at (set reads v (map (number_at scope) (names_read value)))) same ∙ get_or-set_same reads v (map (number_at scope) (names_read value)) [] vr;
           }
 
-      old : (u j : ℕ) → (u ≡ v → ⊥) → slice_index_or (set places v (Some (length passed))) u None ≡ Some j → IsNotedAt scope (passed ++ Assign name value ∷ []) (set reads v (map (number_at scope) (names_read value))) u j
+      old : (u j : ℕ) → (u ≡ v → ⊥) → slice_index_or (set places v (Some (length passed))) u None ≡ Some j
+          → IsNotedAt scope (passed ++ Assign name value ∷ [])
+          (set reads v (map (number_at scope) (names_read value))) u j
       old u j other e =
           let before = n.noted u j (sym (get_or-set_other places v u (Some (length passed)) None other) ∙ e) in
           record {
@@ -115,7 +120,9 @@ module _ (scope : Scope) where
             row = get_or-set_other reads v u (map (number_at scope) (names_read value)) [] other ∙ before.row;
           }
 
-      some-old : (j u : ℕ) (name' : List ℕ) (value' : Expr) → slice_get (passed ++ Assign name value ∷ []) j ≡ Some (Assign name' value') → number_in scope name' ≡ Some u → (u ≡ v → ⊥) → (k : ℕ) × (slice_index_or places u None ≡ Some k)
+      some-old : (j u : ℕ) (name' : List ℕ) (value' : Expr)
+          → slice_get (passed ++ Assign name value ∷ []) j ≡ Some (Assign name' value')
+          → number_in scope name' ≡ Some u → (u ≡ v → ⊥) → (k : ℕ) × (slice_index_or places u None ≡ Some k)
       some-old j u name' value' e k other = ⊎_elim (λ before. n.some j u name' value' before k)
           (λ (new : (j ≡ length passed) × (Assign name value ≡ Assign name' value')). absurd (other (same-number (sym k ∙ ap (number_in scope) (sym (named new.1)) ∙ known))))
           (back-or-front passed (Assign name value) j (Assign name' value') e)
@@ -160,13 +167,17 @@ module _ (scope : Scope) where
         let count : number_at scope name ≡ length (names_in scope) = ap (λ o. unwrap_or o (length (names_in scope))) e in
         let pl = n.places_long in
         let rl = n.reads_long in
-        subst (λ ps. IsNoted scope (passed ++ Assign name value ∷ []) ps (set reads (number_at scope name) (map (number_at scope) (names_read value)))) (sym (set_past places (number_at scope name) (Some (length passed)) (omega (arith, count, pl))))
+        subst (λ ps. IsNoted scope (passed ++ Assign name value ∷ []) ps
+        (set reads (number_at scope name) (map (number_at scope) (names_read value))))
+        (sym (set_past places (number_at scope name) (Some (length passed)) (omega (arith, count, pl))))
         (subst (λ rs. IsNoted scope (passed ++ Assign name value ∷ []) places rs) (sym (set_past reads (number_at scope name) (map (number_at scope) (names_read value)) (omega (arith, count, rl))))
         (unnumbered passed name value places reads e n))
 
 -- numbers of names, a name further
 pub numbers-more : (scope : Scope) (text : List MentionHere) (i : ℕ) (d : MentionHere) → i < length text
-    → map (number_at scope) (map mentioned (shown (take (i + 1) text))) ≡ map (number_at scope) (map mentioned (shown (take i text))) ++ number_at scope (mentioned (mention_of (slice_index_or text i d))) ∷ []
+    → map (number_at scope) (map mentioned (shown (take (i + 1) text)))
+    ≡ map (number_at scope) (map mentioned (shown (take i text)))
+    ++ number_at scope (mentioned (mention_of (slice_index_or text i d))) ∷ []
 numbers-more scope text i d below =
     ap (λ xs. map (number_at scope) (map mentioned xs)) (map_more mention_of text i d below)
     ∙ ap (map (number_at scope)) (map-append mentioned (shown (take i text)) (mention_of (slice_index_or text i d) ∷ []))

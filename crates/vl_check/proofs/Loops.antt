@@ -1,5 +1,6 @@
 -- A cycle of numbers is a loop of assignments, begun with the name that stands first in the text; and an order leaves no loop.
-use Rattle.std.proofs.Common.{◌≡◌, ◌≢◌, ◌<◌, ◌≤◌, ◌+◌, ◌-◌, ◌%◌, inl, inr, ◌⊎◌, ⊎_elim, ℕ, zero, suc, Bool, true, false, List, [], ◌∷◌, length, map, slice_get, slice_index, slice_index_or, Contains, Option, None, Some, bytes_eq, refl, sym, ap, subst, ◌∙◌, arith}
+use Rattle.std.proofs.Common.{◌≡◌, ◌≢◌, ◌<◌, ◌≤◌, ◌+◌, ◌-◌, ◌%◌, inl, inr, ◌⊎◌, ⊎_elim, ℕ, zero, suc, Bool, true, false, List, [], ◌∷◌, length, map, slice_get, slice_index, slice_index_or, Contains}
+use Rattle.std.proofs.Common.{Option, None, Some, bytes_eq, refl, sym, ap, subst, ◌∙◌, arith}
 use Rattle.std.proofs.lemmas.Bool.{cases_lt}
 use Rattle.std.proofs.lemmas.Nat.{mod_below}
 use Rattle.std.proofs.lemmas.Map.Keys.{IsDistinct-from_apart}
@@ -29,7 +30,8 @@ use Rattle.vl_check.proofs.ScopeNames.{at-number}
 index-in : (xs : List ℕ) (k : ℕ) → k < length xs → Contains xs (slice_index xs k)
 index-in xs k below = (k, below, get_or_default xs k (slice_index xs k) 0 below)
 
-module _ (m : Module) (scope : Scope) (places : List (Option ℕ)) (reads : List (List ℕ)) (s : IsScopeOf m scope) (driven : undriven m ≡ None) (once : doubly m ≡ None) (n : IsNoted scope m.items places reads) where
+module _ (m : Module) (scope : Scope) (places : List (Option ℕ)) (reads : List (List ℕ)) (s : IsScopeOf m scope)
+    (driven : undriven m ≡ None) (once : doubly m ≡ None) (n : IsNoted scope m.items places reads) where
   one-number : {a b : ℕ} → Some a ≡ Some b → a ≡ b
   one-number p = cc p
 
@@ -41,7 +43,9 @@ module _ (m : Module) (scope : Scope) (places : List (Option ℕ)) (reads : List
   item-of name value j e = (j, slice_get_within m.items j (Assign name value) e, get_or_from_slice_get m.items j (Assign name value) (Assign name value) e)
 
   read-in : (name read : List ℕ) (value : Expr) → Contains m.items (Assign name value) → Contains (names_read value) read → Contains (mentions m) (Reads read)
-  read-in name read value i r = in-item m driven once (Assign name value) (Reads read) i (tail-in (Drives false name) (Reads read) (map Reads (names_read value)) (map-in Reads (names_read value) read r))
+  read-in name read value i r = in-item m driven once (Assign name value) (Reads read) i
+      (tail-in (Drives false name) (Reads read) (map Reads (names_read value))
+      (map-in Reads (names_read value) read r))
 
   driven-in : (name : List ℕ) (value : Expr) → Contains m.items (Assign name value) → Contains (mentions m) (Drives false name)
   driven-in name value i = in-item m driven once (Assign name value) (Drives false name) i (head-in (Drives false name) (map Reads (names_read value)))
@@ -50,9 +54,13 @@ module _ (m : Module) (scope : Scope) (places : List (Option ℕ)) (reads : List
   known x h = s.knows (mentioned x) (map-in mentioned (mentions m) x h)
 
   -- the numbers in a row are those of the names that the assignment reads
-  row-reads : (v x : ℕ) → Contains (row_at reads v) x → (name read : List ℕ) × (value : Expr) × (j : ℕ) × (slice_get m.items j ≡ Some (Assign name value)) × (number_in scope name ≡ Some v) × Contains (names_read value) read × (number_in scope read ≡ Some x)
+  row-reads : (v x : ℕ) → Contains (row_at reads v) x
+      → (name read : List ℕ) × (value : Expr) × (j : ℕ) × (slice_get m.items j ≡ Some (Assign name value))
+      × (number_in scope name ≡ Some v) × Contains (names_read value) read × (number_in scope read ≡ Some x)
   row-reads v x c = by (slice_index_or places v None) refl where
-    by : (o : Option ℕ) → slice_index_or places v None ≡ o → (name read : List ℕ) × (value : Expr) × (j : ℕ) × (slice_get m.items j ≡ Some (Assign name value)) × (number_in scope name ≡ Some v) × Contains (names_read value) read × (number_in scope read ≡ Some x)
+    by : (o : Option ℕ) → slice_index_or places v None ≡ o
+        → (name read : List ℕ) × (value : Expr) × (j : ℕ) × (slice_get m.items j ≡ Some (Assign name value))
+        × (number_in scope name ≡ Some v) × Contains (names_read value) read × (number_in scope read ≡ Some x)
     by None e = let empty = subst (λ xs. Contains xs x) (n.none v e) c in absurd (nothing x empty) where
       nothing : (x : ℕ) → Contains [] x → ⊥
       nothing x (k, below, e) = omega arith
@@ -203,7 +211,9 @@ module _ (m : Module) (scope : Scope) (places : List (Option ℕ)) (reads : List
         let k = n.some j v name value e number in
         let at = n.noted v k.0 k.1 in
         let same-name' : at.name ≡ name = sym (name-of-number at.name v at.number) ∙ name-of-number name v number in
-        let one : Assign at.name at.value ≡ Assign name value = one-driver m driven once false false name (Assign at.name at.value) (Assign name value) (item-of at.name at.value k.0 at.item) (item-of name value j e)
+        let one : Assign at.name at.value ≡ Assign name value =
+        one-driver m driven once false false name (Assign at.name at.value) (Assign name value)
+        (item-of at.name at.value k.0 at.item) (item-of name value j e)
         (subst (λ x. Contains (item_mentions (Assign at.name at.value)) (Drives false x)) same-name' (head-in (Drives false at.name) (map Reads (names_read at.value))))
         (head-in (Drives false name) (map Reads (names_read value))) in
         let same-value : at.value ≡ value = cc one in
@@ -250,7 +260,9 @@ module _ (m : Module) (scope : Scope) (places : List (Option ℕ)) (reads : List
         let end = at (length others) (omega arith) in
         let down = sinks (λ k. slice_index_or names k []) total l.reads (length others) (omega arith) start.0 end.0 start.1 end.1 in
         let wrap : (length others + 1) % total ≡ 0 = (let e : length others + 1 ≡ total = omega arith in ap (λ k. k % total) e ∙ mod_self total) in
-        let less = falls (slice_index_or names (length others) []) first end.0 start.0 (subst (λ j. AssignmentReads m (slice_index_or names (length others) []) (slice_index_or names j [])) wrap (l.reads (length others) (omega arith))) end.1 start.1 in
+        let less = falls (slice_index_or names (length others) []) first end.0 start.0
+        (subst (λ j. AssignmentReads m (slice_index_or names (length others) []) (slice_index_or names j []))
+        wrap (l.reads (length others) (omega arith))) end.1 start.1 in
         omega (arith, down, less)
       where
         sinks : (f : ℕ → List ℕ) (total : ℕ) → ((k : ℕ) → k < total → AssignmentReads m (f k) (f ((k + 1) % total))) → (k : ℕ) → k < total → (p q : ℕ) → Stands (f 0) p → Stands (f k) q → q + k ≤ p

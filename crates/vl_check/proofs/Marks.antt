@@ -1,5 +1,6 @@
 -- One more place of a text: its marks, its first declarations, and the first fault.
-use Rattle.std.proofs.Common.{◌≡◌, ◌≢◌, ◌<◌, ◌≤◌, ◌+◌, ⊎_elim, ℕ, Bool, true, false, not, ◌&&◌, ◌||◌, if◌then◌else◌, List, [], ◌∷◌, ◌++◌, length, map, flat_map, find, replicate, take, drop, set, slice_index, slice_index_or, bytes_eq, Option, Some, None, refl, sym, ap, subst, ◌∙◌, arith, inl, inr, ◌⊎◌, suc, is_none}
+use Rattle.std.proofs.Common.{◌≡◌, ◌≢◌, ◌<◌, ◌≤◌, ◌+◌, ⊎_elim, ℕ, Bool, true, false, not, ◌&&◌, ◌||◌, if◌then◌else◌, List, [], ◌∷◌, ◌++◌, length, map, flat_map, find, replicate, take, drop, set}
+use Rattle.std.proofs.Common.{slice_index, slice_index_or, bytes_eq, Option, Some, None, refl, sym, ap, subst, ◌∙◌, arith, inl, inr, ◌⊎◌, suc, is_none}
 use Rattle.std.specs.List.{list_any}
 use Rattle.std.specs.Option.{option_map, option_or}
 use Rattle.std.proofs.lemmas.Bool.{false≢true}
@@ -56,7 +57,8 @@ module _ (test : List ℕ → Mention → Bool) (is_one : Mention → Bool) (hol
       not-it : (name : List ℕ) → list_any (test name) (x ∷ []) ≡ false
       not-it name = ap (λ t. t || false) (holds name x ∙ ap (λ t. t && bytes_eq (mentioned x) name) other)
 
-  pub marked-more : (marks : List Bool) (part : List Mention) (x : Mention) (at : ℕ) → at < length names → length marks ≡ count → ((d : List ℕ) → slice_index_or names at d ≡ mentioned x) → is_one x ≡ true
+  pub marked-more : (marks : List Bool) (part : List Mention) (x : Mention) (at : ℕ) → at < length names
+      → length marks ≡ count → ((d : List ℕ) → slice_index_or names at d ≡ mentioned x) → is_one x ≡ true
       → Marks test names numbers marks part → Marks test names numbers (set marks (slice_index numbers at) true) (part ++ x ∷ [])
   marked-more marks part x at within long is one m = record { at = λ i d b below. names-cases (slice_index_or names i d) (slice_index_or names at d) _ (it i d b below) (other i d b below) } where
     held : (name : List ℕ) → list_any (test name) (x ∷ []) ≡ bytes_eq (mentioned x) name
@@ -86,7 +88,10 @@ module _ (names : List (List ℕ)) (numbers : List ℕ) (count : ℕ) (known : A
   abbrev sought : List ℕ → Declared → Bool
   sought name d = bytes_eq d.name name
 
-  first-in : (name : List ℕ) (part more : List Mention) → find (sought name) (flat_map declared_by (part ++ more)) ≡ option_or (find (sought name) (flat_map declared_by part)) (find (sought name) (flat_map declared_by more))
+  first-in : (name : List ℕ) (part more : List Mention)
+      → find (sought name) (flat_map declared_by (part ++ more))
+      ≡ option_or (find (sought name) (flat_map declared_by part))
+      (find (sought name) (flat_map declared_by more))
   first-in name part more = ap (find (sought name)) (flat_map-append declared_by part more) ∙ find-append (sought name) (flat_map declared_by part) (flat_map declared_by more)
 
   or-none : {X : Type 0} (o : Option X) → option_or o None ≡ o
@@ -95,12 +100,17 @@ module _ (names : List (List ℕ)) (numbers : List ℕ) (count : ℕ) (known : A
 
   -- a place that declares none of the names that have no declaration yet
   pub first-same : (first : List (Option DeclaredHere)) (part : List Mention) (x : Mention)
-      → ((i : ℕ) (d : List ℕ) (f : Option DeclaredHere) → i < length names → (find (sought (slice_index_or names i d)) (flat_map declared_by (x ∷ [])) ≡ None) ⊎ ((y : DeclaredHere) × (slice_index_or first (slice_index numbers i) f ≡ Some y)))
+      → ((i : ℕ) (d : List ℕ) (f : Option DeclaredHere) → i < length names
+      → (find (sought (slice_index_or names i d)) (flat_map declared_by (x ∷ [])) ≡ None)
+      ⊎ ((y : DeclaredHere) × (slice_index_or first (slice_index numbers i) f ≡ Some y)))
       → AreFirst names numbers first part → AreFirst names numbers first (part ++ x ∷ [])
   first-same first part x none a = record {
     at = λ i d f below.
         a.at i d f below ∙ by (find (sought (slice_index_or names i d)) (flat_map declared_by part)) (find (sought (slice_index_or names i d)) (flat_map declared_by (x ∷ [])))
-        (option_map declared_of (slice_index_or first (slice_index numbers i) f)) (a.at i d f below) (⊎_elim (λ e. inl e) (λ (s : (y : DeclaredHere) × (slice_index_or first (slice_index numbers i) f ≡ Some y)). inr (declared_of s.0, ap (option_map declared_of) s.1)) (none i d f below))
+        (option_map declared_of (slice_index_or first (slice_index numbers i) f)) (a.at i d f below)
+        (⊎_elim (λ e. inl e)
+        (λ (s : (y : DeclaredHere) × (slice_index_or first (slice_index numbers i) f ≡ Some y)). inr
+        (declared_of s.0, ap (option_map declared_of) s.1)) (none i d f below))
         ∙ sym (first-in (slice_index_or names i d) part (x ∷ []));
   }
     where
@@ -109,35 +119,48 @@ module _ (names : List (List ℕ)) (numbers : List ℕ) (count : ℕ) (known : A
       by None new shown e (inr s) = absurd (cc (e, s.1))
       by (Some y) new shown e c = refl
 
-  pub first-more : (first : List (Option DeclaredHere)) (part : List Mention) (declared : DeclaredHere) (at : ℕ) → at < length names → length first ≡ count → ((d : List ℕ) → slice_index_or names at d ≡ declared.name.now)
+  pub first-more : (first : List (Option DeclaredHere)) (part : List Mention) (declared : DeclaredHere) (at : ℕ)
+      → at < length names → length first ≡ count → ((d : List ℕ) → slice_index_or names at d ≡ declared.name.now)
       → ((f : Option DeclaredHere) → slice_index_or first (slice_index numbers at) f ≡ None)
       → AreFirst names numbers first part → AreFirst names numbers (set first (slice_index numbers at) (Some declared)) (part ++ Declares (declared_of declared) ∷ [])
-  first-more first part declared at within long is none a = record { at = λ i d f below. names-cases (slice_index_or names i d) (slice_index_or names at d) _ (it i d f below) (other i d f below) } where
-    alone : (name : List ℕ) (t : Bool) → bytes_eq declared.name.now name ≡ t → find (sought name) (flat_map declared_by (Declares (declared_of declared) ∷ [])) ≡ (if t then Some (declared_of declared) else None)
-    alone name t e = ap (λ t. if t then Some (declared_of declared) else None) e
+  first-more first part declared at within long is none a =
+      record {
+        at = λ i d f below. names-cases (slice_index_or names i d) (slice_index_or names at d) _
+            (it i d f below) (other i d f below);
+      } where
+        alone : (name : List ℕ) (t : Bool) → bytes_eq declared.name.now name ≡ t
+            → find (sought name) (flat_map declared_by (Declares (declared_of declared) ∷ []))
+            ≡ (if t then Some (declared_of declared) else None)
+        alone name t e = ap (λ t. if t then Some (declared_of declared) else None) e
 
-    it : (i : ℕ) (d : List ℕ) (f : Option DeclaredHere) → i < length names → slice_index_or names i d ≡ slice_index_or names at d
-        → option_map declared_of (slice_index_or (set first (slice_index numbers at) (Some declared)) (slice_index numbers i) f) ≡ find (sought (slice_index_or names i d)) (flat_map declared_by (part ++ Declares (declared_of declared) ∷ []))
-    it i d f below same =
-        let low = known.below at within in
-        let name = slice_index_or names i d in
-        let number = known.one i at d below within same in
-        let old : find (sought name) (flat_map declared_by part) ≡ None = sym (a.at i d f below) ∙ ap (λ k. option_map declared_of (slice_index_or first k f)) number ∙ ap (option_map declared_of) (none f) in
-        ap (λ k. option_map declared_of (slice_index_or (set first (slice_index numbers at) (Some declared)) k f)) number
-        ∙ ap (option_map declared_of) (get_or-set_same first (slice_index numbers at) (Some declared) f (omega (arith, low, long)))
-        ∙ sym (alone name true (ap (bytes_eq declared.name.now) (same ∙ is d) ∙ same_bytes declared.name.now))
-        ∙ ap (λ o. option_or o (find (sought name) (flat_map declared_by (Declares (declared_of declared) ∷ [])))) (sym old)
-        ∙ sym (first-in name part (Declares (declared_of declared) ∷ []))
+        it : (i : ℕ) (d : List ℕ) (f : Option DeclaredHere) → i < length names → slice_index_or names i d ≡ slice_index_or names at d
+            → option_map declared_of (slice_index_or (set first (slice_index numbers at) (Some declared))
+            (slice_index numbers i) f) ≡ find (sought (slice_index_or names i d))
+            (flat_map declared_by (part ++ Declares (declared_of declared) ∷ []))
+        it i d f below same =
+            let low = known.below at within in
+            let name = slice_index_or names i d in
+            let number = known.one i at d below within same in
+            let old : find (sought name) (flat_map declared_by part) ≡ None =
+            sym (a.at i d f below) ∙ ap (λ k. option_map declared_of (slice_index_or first k f)) number
+            ∙ ap (option_map declared_of) (none f) in
+            ap (λ k. option_map declared_of (slice_index_or (set first (slice_index numbers at) (Some declared)) k f)) number
+            ∙ ap (option_map declared_of) (get_or-set_same first (slice_index numbers at) (Some declared) f (omega (arith, low, long)))
+            ∙ sym (alone name true (ap (bytes_eq declared.name.now) (same ∙ is d) ∙ same_bytes declared.name.now))
+            ∙ ap (λ o. option_or o (find (sought name) (flat_map declared_by (Declares (declared_of declared) ∷ [])))) (sym old)
+            ∙ sym (first-in name part (Declares (declared_of declared) ∷ []))
 
-    other : (i : ℕ) (d : List ℕ) (f : Option DeclaredHere) → i < length names → slice_index_or names i d ≢ slice_index_or names at d
-        → option_map declared_of (slice_index_or (set first (slice_index numbers at) (Some declared)) (slice_index numbers i) f) ≡ find (sought (slice_index_or names i d)) (flat_map declared_by (part ++ Declares (declared_of declared) ∷ []))
-    other i d f below ne =
-        let name = slice_index_or names i d in
-        ap (option_map declared_of) (get_or-set_other first (slice_index numbers at) (slice_index numbers i) (Some declared) f (known.apart i at d below within ne))
-        ∙ a.at i d f below
-        ∙ sym (or-none (find (sought name) (flat_map declared_by part)))
-        ∙ ap (option_or (find (sought name) (flat_map declared_by part))) (sym (alone name false (unequal declared.name.now name (λ e. ne (sym e ∙ sym (is d))))))
-        ∙ sym (first-in name part (Declares (declared_of declared) ∷ []))
+        other : (i : ℕ) (d : List ℕ) (f : Option DeclaredHere) → i < length names → slice_index_or names i d ≢ slice_index_or names at d
+            → option_map declared_of (slice_index_or (set first (slice_index numbers at) (Some declared))
+            (slice_index numbers i) f) ≡ find (sought (slice_index_or names i d))
+            (flat_map declared_by (part ++ Declares (declared_of declared) ∷ []))
+        other i d f below ne =
+            let name = slice_index_or names i d in
+            ap (option_map declared_of) (get_or-set_other first (slice_index numbers at) (slice_index numbers i) (Some declared) f (known.apart i at d below within ne))
+            ∙ a.at i d f below
+            ∙ sym (or-none (find (sought name) (flat_map declared_by part)))
+            ∙ ap (option_or (find (sought name) (flat_map declared_by part))) (sym (alone name false (unequal declared.name.now name (λ e. ne (sym e ∙ sym (is d))))))
+            ∙ sym (first-in name part (Declares (declared_of declared) ∷ []))
 
 -- the first fault, a place further
 pub faulty : (test : List Mention → Mention → Bool) (before after : List Mention) (x : Mention) → test before x ≡ true → first_fault test before (x ∷ after) ≡ Some (mentioned x)
@@ -146,14 +169,18 @@ faulty test before after x e = ap (λ t. if t then Some (mentioned x) else first
 pub sound : (test : List Mention → Mention → Bool) (before after : List Mention) (x : Mention) → test before x ≡ false → first_fault test before (x ∷ after) ≡ first_fault test (before ++ x ∷ []) after
 sound test before after x e = ap (λ t. if t then Some (mentioned x) else first_fault test (before ++ x ∷ []) after) e
 
-pub double-here : (m : Module) (before : List Mention) (x : Mention) (declared driven : Bool) (declaration : Option Declared) → declared ≡ list_any (is_declaration_of (mentioned x)) before → driven ≡ list_any (is_driver_of (mentioned x)) before
+pub double-here : (m : Module) (before : List Mention) (x : Mention) (declared driven : Bool)
+    (declaration : Option Declared) → declared ≡ list_any (is_declaration_of (mentioned x)) before
+    → driven ≡ list_any (is_driver_of (mentioned x)) before
     → declaration ≡ declaration_of m (mentioned x) → double_where declared driven declaration x ≡ is_double m before x
 double-here m before (Declares d) declared driven declaration e f g = e
 double-here m before (Drives c n) declared driven declaration e f g = (λ i. f i || not (may_drive_it c (g i)))
 double-here m before (Reads n) declared driven declaration e f g = refl
 double-here m before Clocks declared driven declaration e f g = refl
 
-pub undriven-here : (all before : List Mention) (x : Mention) (declared driven : Bool) → declared ≡ list_any (is_declaration_of (mentioned x)) before → driven ≡ list_any (is_driver_of (mentioned x)) all
+pub undriven-here : (all before : List Mention) (x : Mention) (declared driven : Bool)
+    → declared ≡ list_any (is_declaration_of (mentioned x)) before
+    → driven ≡ list_any (is_driver_of (mentioned x)) all
     → undriven_where declared driven x ≡ is_undriven all before x
 undriven-here all before (Declares d) declared driven e f = ap (λ t. needs_driver d.kind && not t) f
 undriven-here all before (Drives c n) declared driven e f = ap not e
@@ -214,10 +241,16 @@ module _ (text : List MentionHere) (i : ℕ) (d : MentionHere) (below : i < leng
       → option_map declared_of (slice_index_or first (slice_index numbers i) f) ≡ find (λ (x : Declared). bytes_eq x.name (mentioned here)) (flat_map declared_by part)
   first-here numbers first part f a = a.at i [] f in-names ∙ ap (λ name. find (λ (x : Declared). bytes_eq x.name name) (flat_map declared_by part)) (name-here [])
 
-pub first-step : (text : List MentionHere) (i : ℕ) (d : MentionHere) (below : i < length text) (numbers : List ℕ) (count : ℕ) → AreNumbers (map mentioned (shown text)) numbers count → (first : List (Option DeclaredHere)) → length first ≡ count
-    → AreFirst (map mentioned (shown text)) numbers first (take i (shown text)) → AreFirst (map mentioned (shown text)) numbers (first_after first (slice_index numbers i) (slice_index_or text i d)) (take (i + 1) (shown text))
+pub first-step : (text : List MentionHere) (i : ℕ) (d : MentionHere) (below : i < length text) (numbers : List ℕ)
+    (count : ℕ) → AreNumbers (map mentioned (shown text)) numbers count → (first : List (Option DeclaredHere))
+    → length first ≡ count
+    → AreFirst (map mentioned (shown text)) numbers first (take i (shown text))
+    → AreFirst (map mentioned (shown text)) numbers
+    (first_after first (slice_index numbers i) (slice_index_or text i d)) (take (i + 1) (shown text))
 first-step text i d below numbers count known first long a =
-    subst (λ part. AreFirst (map mentioned (shown text)) numbers (first_after first (slice_index numbers i) (slice_index_or text i d)) part) (sym (passed-more text i d below)) (by (slice_index_or text i d) refl)
+    subst (λ part. AreFirst (map mentioned (shown text)) numbers
+    (first_after first (slice_index numbers i) (slice_index_or text i d)) part)
+    (sym (passed-more text i d below)) (by (slice_index_or text i d) refl)
   where
     absent : (f : Option DeclaredHere) → is_none f ≡ true → f ≡ None
     absent None e = refl
@@ -266,7 +299,9 @@ first-long first first' at x e = ap length e ∙ by x where
   by ClocksHere = refl
 
 -- the first declaration of the name that stands here
-pub declared-here : (m : Module) (text : List MentionHere) → shown text ≡ mentions m → (i : ℕ) (d : MentionHere) (below : i < length text) (numbers : List ℕ) (first : List (Option DeclaredHere)) (f : Option DeclaredHere)
+pub declared-here : (m : Module) (text : List MentionHere) → shown text ≡ mentions m
+    → (i : ℕ) (d : MentionHere) (below : i < length text) (numbers : List ℕ) (first : List (Option DeclaredHere))
+    (f : Option DeclaredHere)
     → AreFirst (map mentioned (shown text)) numbers first (shown text)
     → option_map declared_of (slice_index_or first (slice_index numbers i) f) ≡ declaration_of m (mentioned (mention_of (slice_index_or text i d)))
 declared-here m text whole i d below numbers first f a =
@@ -289,12 +324,18 @@ number-below text numbers count known i here marks long = let low = known.low i 
 pub past-all : (text : List MentionHere) (i : ℕ) → length text ≤ i → length (shown text) ≤ i
 past-all text i past = let long = length-map text mention_of in omega (arith, long, past)
 
-pub none-marked : (test : List ℕ → Mention → Bool) (names : List (List ℕ)) (numbers : List ℕ) (count : ℕ) → AreNumbers names numbers count → (marks : List Bool) → marks ≡ replicate count false → Marks test names numbers marks []
+pub none-marked : (test : List ℕ → Mention → Bool) (names : List (List ℕ)) (numbers : List ℕ) (count : ℕ)
+    → AreNumbers names numbers count → (marks : List Bool) → marks ≡ replicate count false
+    → Marks test names numbers marks []
 none-marked test names numbers count known marks is = record {
   at = λ i d m inside. ap (λ (ms : List Bool). slice_index_or ms (slice_index numbers i) m) is ∙ get_or-replicate count (slice_index numbers i) false m (known.below i inside);
 }
 
-pub none-first : (names : List (List ℕ)) (numbers : List ℕ) (count : ℕ) → AreNumbers names numbers count → (first : List (Option DeclaredHere)) → first ≡ replicate count None → AreFirst names numbers first []
+pub none-first : (names : List (List ℕ)) (numbers : List ℕ) (count : ℕ) → AreNumbers names numbers count
+    → (first : List (Option DeclaredHere)) → first ≡ replicate count None → AreFirst names numbers first []
 none-first names numbers count known first is = record {
-  at = λ i d f inside. ap (λ (fs : List (Option DeclaredHere)). option_map declared_of (slice_index_or fs (slice_index numbers i) f)) is ∙ ap (option_map declared_of) (get_or-replicate count (slice_index numbers i) None f (known.below i inside));
+  at = λ i d f inside. ap (λ (fs : List (Option DeclaredHere)). option_map declared_of
+      (slice_index_or fs (slice_index numbers i) f)) is
+      ∙ ap (option_map declared_of)
+      (get_or-replicate count (slice_index numbers i) None f (known.below i inside));
 }

@@ -1,5 +1,6 @@
 -- One more name gets a number.
-use Rattle.std.proofs.Common.{◌≡◌, ◌<◌, ◌≤◌, ⊎_elim, ℕ, Bool, true, false, List, [], ◌∷◌, ◌++◌, length, map, slice_index, slice_index_or, slice_get, Some, Bor, bytes_eq, if◌then◌else◌, refl, sym, ap, subst, ◌∙◌, inl, inr, ◌⊎◌, true≢false, arith}
+use Rattle.std.proofs.Common.{◌≡◌, ◌<◌, ◌≤◌, ⊎_elim, ℕ, Bool, true, false, List, [], ◌∷◌, ◌++◌, length, map, slice_index, slice_index_or, slice_get, Some, Bor, bytes_eq, if◌then◌else◌, refl, sym, ap}
+use Rattle.std.proofs.Common.{subst, ◌∙◌, inl, inr, ◌⊎◌, true≢false, arith}
 use Rattle.std.specs.List.{list_any, IsDistinct}
 use Rattle.std.proofs.lemmas.List.Sums.{fold-append}
 use Rattle.std.proofs.lemmas.Bool.{cases_lt}
@@ -91,7 +92,12 @@ module _ (names : List (List ℕ)) (keys keys' : List (List ℕ)) (numbers : Lis
         let there : u.0 < length (names ++ name ∷ []) = omega (arith, fewer, b) in
         let low : u.0 < length numbers = omega (arith, l, b) in
         (u.0, there, get_or_append_left numbers (number ∷ []) 0 u.0 low ∙ u.2))
-        (λ new. let there : length names < length (names ++ name ∷ []) = omega (arith, fewer) in (length names, there, get_or_at numbers number [] 0 (length names) l ∙ last (longer keys keys' name is) different here k new below))
+        (λ new. let there : length names < length (names ++ name ∷ []) = omega (arith, fewer) in (
+          length names,
+          there,
+          get_or_at numbers number [] 0 (length names) l
+              ∙ last (longer keys keys' name is) different here k new below,
+        ))
         (cases_lt k (length keys));
     different = different;
     whole = is ∙ ap (λ ks. with_name ks name) n.whole ∙ sym (fold-append with_name [] names (name ∷ []));
@@ -100,7 +106,15 @@ module _ (names : List (List ℕ)) (keys keys' : List (List ℕ)) (numbers : Lis
 pub no-names : (keys : List (Bor (List ℕ))) (numbers : List ℕ) → keys ≡ [] → numbers ≡ [] → Numbered [] (texts keys) numbers
 no-names keys numbers e f =
     subst (λ ns. Numbered [] (texts keys) ns) (sym f) (subst (λ ks. Numbered [] (texts ks) []) (sym e)
-    (record { long = refl; at = λ i d below. absurd (omega arith); used = λ k below. absurd (omega arith); different = IsDistinct-from_apart bytes_eq [] (λ i j e less below. absurd (omega arith)); whole = refl }))
+    (record {
+      long = refl;
+      at = λ i d below. absurd (omega arith);
+      used =
+          λ k below. absurd (omega arith);
+      different =
+          IsDistinct-from_apart bytes_eq [] (λ i j e less below. absurd (omega arith));
+      whole = refl;
+    }))
 
 -- the name at a place
 pub name-at : (text : List MentionHere) (i : ℕ) (e : List ℕ) (d : MentionHere) → i < length text → slice_index_or (map mentioned (shown text)) i e ≡ mentioned (mention_of (slice_index_or text i d))

@@ -1,5 +1,6 @@
 -- The numbers and the declarations of names are those of the text.
-use Rattle.std.proofs.Common.{◌≡◌, ◌<◌, ℕ, Bool, true, false, cond, ltb, if◌then◌else◌, List, [], ◌∷◌, length, map, flat_map, find, slice_index, slice_index_or, slice_get, Contains, Option, None, Some, Bor, bytes_eq, refl, sym, ap, subst, ◌∙◌, arith}
+use Rattle.std.proofs.Common.{◌≡◌, ◌<◌, ℕ, Bool, true, false, cond, ltb, if◌then◌else◌, List, [], ◌∷◌, length, map, flat_map, find, slice_index, slice_index_or, slice_get, Contains, Option, None}
+use Rattle.std.proofs.Common.{Some, Bor, bytes_eq, refl, sym, ap, subst, ◌∙◌, arith}
 use Rattle.std.specs.Option.{option_map, option_and_then}
 use Rattle.std.specs.List.{IsDistinct, position}
 use Rattle.std.proofs.lemmas.Bool.{cond-true, lt-ltb, false≢true}

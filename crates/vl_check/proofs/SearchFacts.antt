@@ -1,5 +1,6 @@
 -- What a search over a text or over items finds.
-use Rattle.std.proofs.Common.{◌≡◌, ◌<◌, ◌≤◌, ◌+◌, ℕ, suc, min, Bool, true, false, not, ◌||◌, if◌then◌else◌, List, [], ◌∷◌, ◌++◌, length, map, take, drop, find, slice_index_or, Some, None, refl, sym, ap, ◌∙◌, ◌&&◌, subst}
+use Rattle.std.proofs.Common.{◌≡◌, ◌<◌, ◌≤◌, ◌+◌, ℕ, suc, min, Bool, true, false, not, ◌||◌, if◌then◌else◌, List, [], ◌∷◌, ◌++◌, length, map, take, drop, find, slice_index_or, Some, None, refl, sym}
+use Rattle.std.proofs.Common.{ap, ◌∙◌, ◌&&◌, subst}
 use Rattle.std.specs.Prelude.{take_while}
 use Rattle.std.specs.List.{list_any, list_all, prefix_len}
 use Rattle.std.specs.Option.{option_or}
@@ -36,7 +37,9 @@ all-push p (y ∷ ys) x all holds =
     and_from (p y) (list_all p (ys ++ x ∷ [])) both.0 (all-push p ys x both.1 holds)
 
 -- all up to an item pass a test, and so does the item
-pub all-further : {X : Type 0} (p : X → Bool) (items xs : List X) (i : ℕ) (x : X) → items ≡ xs → i < length items → x ≡ slice_index_or items i x → p x ≡ true → list_all p (take i xs) ≡ true → list_all p (take (i + 1) xs) ≡ true
+pub all-further : {X : Type 0} (p : X → Bool) (items xs : List X) (i : ℕ) (x : X) → items ≡ xs → i < length items
+    → x ≡ slice_index_or items i x → p x ≡ true → list_all p (take i xs) ≡ true
+    → list_all p (take (i + 1) xs) ≡ true
 all-further p items xs i x are below is holds all =
     subst (λ ys. list_all p (take i ys) ≡ true → list_all p (take (i + 1) ys) ≡ true) are
     (λ before. ap (list_all p) (take_more items i x below ∙ ap (λ y. take i items ++ y ∷ []) (sym is)) ∙ all-push p (take i items) x before holds) all

@@ -15,7 +15,10 @@ last-or-front rest v u other c = ⊎_elim (λ l. l) (λ e. absurd (other (sym e)
 
 module _ (reads : List (List ℕ)) (stage order : List ℕ) where
   pub turn-open : (stack : List ℕ) (x : ℕ) → State reads stage stack order → x < length reads → slice_index stage x ≡ 0
-      → ((i : ℕ) → i + 1 ≡ length stack → (slice_index stage (slice_index stack i) ≤ size reads (slice_index stack i)) × (slice_index (row_at reads (slice_index stack i)) (slice_index stage (slice_index stack i) - 1) ≡ x))
+      → ((i : ℕ) → i + 1 ≡ length stack → (slice_index stage (slice_index stack i)
+      ≤ size reads (slice_index stack i))
+      × (slice_index (row_at reads (slice_index stack i)) (slice_index stage (slice_index stack i) - 1)
+      ≡ x))
       → State reads (set stage x (slice_index stage x + 1)) (stack ++ x ∷ []) order
   turn-open stack x s within white top =
       let one : slice_index stage x + 1 ≡ 1 = omega (arith, white) in
@@ -26,7 +29,9 @@ module _ (reads : List (List ℕ)) (stage order : List ℕ) where
         most = most-by-one reads stage x low (omega (arith, white)) s.most;
         met = λ u below h. ⊎_elim
             (λ (e : u ≡ x). inl (subst (λ w. Contains (stack ++ x ∷ []) w) (sym e) (Contains-push stack x)))
-            (λ (o : u ≡ x → ⊥). ⊎_elim (λ c. inl (Contains-append_left stack (x ∷ []) u c)) (λ d. inr (still-done reads stage x (slice_index stage x + 1) u (λ e. omega (arith, e, white)) d)) (s.met u below (met-before stage x u o h)))
+            (λ (o : u ≡ x → ⊥). ⊎_elim (λ c. inl (Contains-append_left stack (x ∷ []) u c))
+            (λ d. inr (still-done reads stage x (slice_index stage x + 1) u (λ e. omega (arith, e, white)) d))
+            (s.met u below (met-before stage x u o h)))
             (cases_eq u x);
       }
 
@@ -61,8 +66,15 @@ module _ (reads : List (List ℕ)) (stage order : List ℕ) where
         walk = subst (λ y. Walk reads (set stage v y) rest (order ++ v ∷ [])) (sym next) (closed reads stage rest order v s.walk full);
         most = most-by-one reads stage v low (omega (arith, full)) s.most;
         met = λ u below h. ⊎_elim
-            (λ (e : u ≡ v). inr (record { within = below; last = subst (λ w. slice_index (set stage v (slice_index stage v + 1)) w ≡ size reads w + 2) (sym e) (own-stage stage v (slice_index stage v + 1) low ∙ next) }))
-            (λ (o : u ≡ v → ⊥). ⊎_elim (λ c. inl (last-or-front rest v u o c)) (λ d. inr (still-done reads stage v (slice_index stage v + 1) u (λ e. omega (arith, e, full)) d)) (s.met u below (met-before stage v u o h)))
+            (λ (e : u ≡ v). inr (record {
+              within = below;
+              last =
+                  subst (λ w. slice_index (set stage v (slice_index stage v + 1)) w ≡ size reads w + 2) (sym e)
+                  (own-stage stage v (slice_index stage v + 1) low ∙ next);
+            }))
+            (λ (o : u ≡ v → ⊥). ⊎_elim (λ c. inl (last-or-front rest v u o c))
+            (λ d. inr (still-done reads stage v (slice_index stage v + 1) u (λ e. omega (arith, e, full)) d))
+            (s.met u below (met-before stage v u o h)))
             (cases_eq u v);
       }
 
@@ -93,7 +105,9 @@ step-close reads stage stack order rest order' v s some is full cut grown =
     let room = t.room in
     let shape : stack ≡ rest ++ v ∷ [] = cut-last stack some ∙ (λ i. sym cut i ++ sym is i ∷ []) in
     record {
-      state = subst (λ o. State reads (set stage v (slice_index stage v + 1)) rest o) (sym grown) (turn-close reads stage order rest v (subst (λ st. State reads stage st order) shape s) (omega (arith, room, full)));
+      state = subst (λ o. State reads (set stage v (slice_index stage v + 1)) rest o) (sym grown)
+          (turn-close reads stage order rest v (subst (λ st. State reads stage st order) shape s)
+          (omega (arith, room, full)));
       more = total-set stage v t.low;
       higher = λ u. higher-by-one stage v u t.low;
     }

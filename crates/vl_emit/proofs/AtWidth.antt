@@ -1,5 +1,6 @@
 -- A net that is written at a width has there the bits of its number.
-use Rattle.std.proofs.Common.{◌≡◌, ℕ, zero, suc, ◌+◌, ◌-◌, ◌*◌, ◌/◌, ◌%◌, ◌^◌, ◌<◌, ◌≤◌, ◌==◌, nat_le, max, fold, replicate, Bool, true, false, if◌then◌else◌, List, [], ◌∷◌, ℤ, pos, negsuc, ap, sym, ◌∙◌, subst, refl, arith, pow_pos, pow_mono, mul_assoc}
+use Rattle.std.proofs.Common.{◌≡◌, ℕ, zero, suc, ◌+◌, ◌-◌, ◌*◌, ◌/◌, ◌%◌, ◌^◌, ◌<◌, ◌≤◌, ◌==◌, nat_le, max, fold, replicate, Bool, true, false, if◌then◌else◌, List, [], ◌∷◌, ℤ, pos, negsuc, ap, sym}
+use Rattle.std.proofs.Common.{◌∙◌, subst, refl, arith, pow_pos, pow_mono, mul_assoc}
 use Rattle.std.proofs.lemmas.Int.{ints}
 use Rattle.std.proofs.lemmas.Nat.{pow-add, shr_high, shr-shr, field_of}
 use Rattle.std.proofs.Math.Nat.{mod-eq_of_lt, div-eq_of_lt, add-mul, mul-sub, pow-succ', le-mul_of_pos_right}
@@ -16,7 +17,8 @@ use Rattle.vl_emit.specs.Names.{Wire}
 use Rattle.vl_emit.specs.inner.Pieces.{zeros, fill, inside, piece, at_width}
 use Rattle.vl_emit.specs.inner.AtWidth.{IsWritten, Shows}
 use Rattle.math_num.specs.Bits.{shifted_down}
-use Rattle.vl_ast.proofs.Forms.{sign-Name, sign-Part, sign-Concat, sign-Literal, length-Name, length-Bit, length-Part, length-Literal, length-Concat, length-Repeat, value-Name, value-Bit, value-Part, value-Literal, value-Concat, value-Repeat}
+use Rattle.vl_ast.proofs.Forms.{sign-Name, sign-Part, sign-Concat, sign-Literal, length-Name, length-Bit, length-Part, length-Literal, length-Concat, length-Repeat, value-Name, value-Bit, value-Part}
+use Rattle.vl_ast.proofs.Forms.{value-Literal, value-Concat, value-Repeat}
 use Rattle.vl_ast.proofs.SomeInputs.{bits-fit}
 use Rattle.vl_emit.proofs.Twos.{bits-congruent, bits-unique, bits-mod}
 use Rattle.math_num.proofs.Words.{size-below, size-half, sign_of, size_of}
@@ -123,7 +125,8 @@ module _ (nets : List ℕ → Net) (row : List ℕ → ℕ) where
             ∙ extended-same (is_negative (record { width = count; signed = signed; bits = 0 })) 0 count ∙ sym e;
       }
 
-  copies-written : (count : ℕ) (wire : Wire) (z : ℤ) → 1 ≤ wire.width → size_of z < 2 ^ (wire.width - 1) → Shows nets row wire z → Written count (sign_of z) (Repeat count (Bit wire.name (wire.width - 1)))
+  copies-written : (count : ℕ) (wire : Wire) (z : ℤ) → 1 ≤ wire.width → size_of z < 2 ^ (wire.width - 1)
+      → Shows nets row wire z → Written count (sign_of z) (Repeat count (Bit wire.name (wire.width - 1)))
   copies-written count wire z h half s =
       let bit : Expr = Bit wire.name (wire.width - 1) in
       let long : own_length nets bit ≡ 1 = length-Bit nets wire.name (wire.width - 1) in

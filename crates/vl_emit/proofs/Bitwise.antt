@@ -61,7 +61,9 @@ module _ (nets : List ℕ → Net) (row : List ℕ → ℕ) where
 
   invert-bits : (w : ℕ) (a : ℤ) → 2 ^ w - 1 - bits_of w a ≡ bits_of w (negsuc 0 -ℤ a)
   invert-bits w (pos n) = (let e : negsuc n ≡ negsuc 0 -ℤ pos n = omega (arith, ints) in ap (bits_of w) e)
-  invert-bits w (negsuc n) = (let e : pos n ≡ negsuc 0 -ℤ negsuc n = omega (arith, ints) in (let f : 2 ^ w - 1 - (2 ^ w - 1 - n % 2 ^ w) ≡ n % 2 ^ w = omega (arith, bits-fit w (pos n)) in f ∙ ap (bits_of w) e))
+  invert-bits w (negsuc n) = (let e : pos n ≡ negsuc 0 -ℤ negsuc n = omega (arith, ints) in
+      (let f : 2 ^ w - 1 - (2 ^ w - 1 - n % 2 ^ w) ≡ n % 2 ^ w =
+      omega (arith, bits-fit w (pos n)) in f ∙ ap (bits_of w) e))
 
   pub invert-written : (w : ℕ) (a : ℤ) (x : Expr) → IsWritten nets row w a x → IsWritten nets row w (negsuc 0 -ℤ a) (Unary Invert x)
   invert-written w a x p = record {

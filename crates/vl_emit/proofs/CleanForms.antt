@@ -1,6 +1,7 @@
 -- What is emitted breaks no condition on expressions, reads the nets that it is made of, and multiplies
 -- nowhere but at a Multiply or a Unit.
-use Rattle.std.proofs.Common.{◌≡◌, inl, inr, ℕ, ◌+◌, ◌-◌, ◌*◌, ◌^◌, ◌<◌, ◌≤◌, ◌==◌, nat_le, nat_lt, max, min, Bool, true, false, ◌&&◌, if◌then◌else◌, List, [], ◌∷◌, ◌++◌, Contains, ap, sym, ◌∙◌, subst, refl, arith, pow_pos}
+use Rattle.std.proofs.Common.{◌≡◌, inl, inr, ℕ, ◌+◌, ◌-◌, ◌*◌, ◌^◌, ◌<◌, ◌≤◌, ◌==◌, nat_le, nat_lt, max, min, Bool, true, false, ◌&&◌, if◌then◌else◌, List, [], ◌∷◌, ◌++◌, Contains, ap, sym, ◌∙◌}
+use Rattle.std.proofs.Common.{subst, refl, arith, pow_pos}
 use Rattle.std.proofs.lemmas.Bool.{and_parts, cond_both, eqb-true, eqb-false, leb-true, leb-false, ltb-true, le-leb, lt-ltb, and_from}
 use Rattle.std.proofs.lemmas.List.Elements.{Contains-append_cases}
 use Rattle.math_num.specs.Word.{IsWord}
@@ -14,7 +15,8 @@ use Rattle.vl_ast.specs.declared.expressions.Expr.{Expr}
 use Rattle.vl_ast.specs.declared.expressions.Expr.TheOpen.{Expr-F}
 use Rattle.vl_ast.specs.declared.expressions.Expr.TheViews.{roll-Expr}
 use Rattle.vl_ast.specs.declared.expressions.Expr.TheFolds.{map-Expr, para-Expr, para-roll-Expr, fold-roll-Expr}
-use Rattle.vl_ast.specs.declared.expressions.Expr.TheVariants.{Name, Bit, Part, Literal, Concat, Repeat, AsSigned, Unary, Binary, Shift, Choose, rolls-Name, rolls-Bit, rolls-Part, rolls-Literal, rolls-Concat, rolls-Repeat, rolls-AsSigned, rolls-Unary, rolls-Binary, rolls-Shift, rolls-Choose}
+use Rattle.vl_ast.specs.declared.expressions.Expr.TheVariants.{Name, Bit, Part, Literal, Concat, Repeat, AsSigned, Unary, Binary, Shift, Choose, rolls-Name, rolls-Bit, rolls-Part, rolls-Literal}
+use Rattle.vl_ast.specs.declared.expressions.Expr.TheVariants.{rolls-Concat, rolls-Repeat, rolls-AsSigned, rolls-Unary, rolls-Binary, rolls-Shift, rolls-Choose}
 use Rattle.vl_ast.specs.Context.{Net, Operand, own_length, is_signed, length_at, unary_place, binary_place, InWhole, Together, Alone, Place, operand_at}
 use Rattle.vl_ast.specs.Conditions.{is_sound_step, is_narrow, is_number, is_width}
 use Rattle.vl_ast.specs.Nets.{names_read, names_step}
@@ -140,7 +142,8 @@ module _ (nets : List ℕ → Net) (allowed : List ℕ → Type 0) where
     length = length-Shift nets op part amount ∙ p.length;
     sound = ap sound (sym (rolls-Shift op part amount)) ∙ sound-roll (Expr-F.Shift op part amount) ∙ and_from (is_narrow nets (part, sound part)) (is_number amount) (narrow w part h p) k;
     reads = λ name c. p.reads name (subst (λ (ns : List (List ℕ)). Contains ns name) (ap names_read (sym (rolls-Shift op part amount)) ∙ names-roll (Expr-F.Shift op part amount)) c);
-    products = λ context signed. ap (multiplications_in nets context signed) (sym (rolls-Shift op part amount)) ∙ products-roll (Expr-F.Shift op part amount) context signed ∙ p.products context signed;
+    products = λ context signed. ap (multiplications_in nets context signed) (sym (rolls-Shift op part amount))
+        ∙ products-roll (Expr-F.Shift op part amount) context signed ∙ p.products context signed;
   }
 
   pub as_signed-clean : (w : ℕ) (part : Expr) → w ≤ 128 → Clean w part → Clean w (AsSigned part)
@@ -384,7 +387,8 @@ module _ (nets : List ℕ → Net) (allowed : List ℕ → Type 0) where
     op-clean (operation.ShiftUp places) known input within not_product =
         cond_both (nat_lt places w) (Shift Left (at_width w (a 0)) (record { width = 8; signed = false; bits = places })) (zeros w) (Clean w)
         (λ is. let few : places < w = ltb-true places w is in
-        shift-clean w Left (at_width w (a 0)) (record { width = 8; signed = false; bits = places }) most (lt-ltb places 256 (omega (arith, few, most))) (at-clean w (a 0) some most (known 0 (omega arith))))
+        shift-clean w Left (at_width w (a 0)) (record { width = 8; signed = false; bits = places }) most
+        (lt-ltb places 256 (omega (arith, few, most))) (at-clean w (a 0) some most (known 0 (omega arith))))
         (λ is. no-bits w some most)
     op-clean (operation.ShiftDown places) known input within not_product =
         let r = known 0 (omega arith) in piece-clean (a 0) r.declared r.word r.may places w some most

@@ -1,5 +1,6 @@
 -- The clock, the reset and the attributes of the module of a netlist.
-use Rattle.std.proofs.Common.{◌≡◌, ◌≢◌, inl, inr, ℕ, ◌^◌, ◌<◌, ◌≤◌, nat_le, Bool, true, false, not, ◌&&◌, ◌||◌, if◌then◌else◌, List, [], ◌∷◌, ◌++◌, map, flat_map, find, option_map, length, get_or, Contains, codes, Some, None, refl, ap, sym, ◌∙◌, subst, arith}
+use Rattle.std.proofs.Common.{◌≡◌, ◌≢◌, inl, inr, ℕ, ◌^◌, ◌<◌, ◌≤◌, nat_le, Bool, true, false, not, ◌&&◌, ◌||◌, if◌then◌else◌, List, [], ◌∷◌, ◌++◌, map, flat_map, find, option_map, length, get_or}
+use Rattle.std.proofs.Common.{Contains, codes, Some, None, refl, ap, sym, ◌∙◌, subst, arith}
 use Rattle.std.specs.Prelude.{is_none}
 use Rattle.std.specs.List.{list_any, AllPairs}
 use Rattle.std.proofs.lemmas.Bool.{le-leb, and_right}
@@ -162,7 +163,9 @@ module _ (netlist : Circuit) (runs : IsNetlist netlist) (emits : IsEmittable net
 
   pub attributed : no_attribute (plain_module netlist) ≡ None
   attributed =
-      let none : find (lacks_attribute (is_stallable m)) m.ports ≡ None = find-none (lacks_attribute (is_stallable m)) m.ports (λ port c. has-all (is_stallable m) port (port-where netlist runs emits port c)) in
+      let none : find (lacks_attribute (is_stallable m)) m.ports ≡ None =
+      find-none (lacks_attribute (is_stallable m)) m.ports
+      (λ port c. has-all (is_stallable m) port (port-where netlist runs emits port c)) in
       (λ i. if is_none (cycles-of i) then Some m.name else option_map (λ port. port.name) (find (lacks_attribute (is_stallable m)) m.ports))
       ∙ ap (option_map (λ (port : Port). port.name)) none
 

@@ -1,5 +1,6 @@
 -- In a run a counter counts its frame, and its tests tell slots and the first clocks of the frame.
-use Rattle.std.proofs.Common.{◌≡◌, ◌⊎◌, inl, inr, ℕ, zero, suc, ◌+◌, ◌-◌, ◌*◌, ◌^◌, ◌<◌, ◌≤◌, ◌==◌, nat_lt, Bool, true, false, not, if◌then◌else◌, List, [], ℤ, pos, ◌-ℤ◌, ◌≤ℤ◌, None, ap, sym, ◌∙◌, subst, refl, arith, pow_pos, pow_mono, mul_comm}
+use Rattle.std.proofs.Common.{◌≡◌, ◌⊎◌, inl, inr, ℕ, zero, suc, ◌+◌, ◌-◌, ◌*◌, ◌^◌, ◌<◌, ◌≤◌, ◌==◌, nat_lt, Bool, true, false, not, if◌then◌else◌, List, [], ℤ, pos, ◌-ℤ◌, ◌≤ℤ◌, None, ap, sym, ◌∙◌}
+use Rattle.std.proofs.Common.{subst, refl, arith, pow_pos, pow_mono, mul_comm}
 use Rattle.std.proofs.lemmas.Int.{ints}
 use Rattle.std.proofs.lemmas.Bool.{cases_lt, ltb-true, ltb-false, eqb-true, eqb-false, ne_eqb, false_from_ne_true}
 use Rattle.std.proofs.lemmas.Bool.Decides.{Decides-int_eq}
@@ -39,7 +40,9 @@ use Rattle.vl_emit.proofs.NetBits.{Running, known, value-is, first-bits, release
 counter-step : (q top : ℕ) → (if int_eq (pos q) (pos 0) then pos top else pos q -ℤ pos 1) ≡ pos (if q == 0 then top else q - 1)
 counter-step zero top = refl
 counter-step (suc q) top =
-    let a : int_eq (pos (suc q)) (pos 0) ≡ false = false_from_ne_true (int_eq (pos (suc q)) (pos 0)) (λ e. let same = (Decides-int_eq (pos (suc q)) (pos 0)).0 e in absurd (omega (arith, ints, same))) in
+    let a : int_eq (pos (suc q)) (pos 0) ≡ false =
+    false_from_ne_true (int_eq (pos (suc q)) (pos 0))
+    (λ e. let same = (Decides-int_eq (pos (suc q)) (pos 0)).0 e in absurd (omega (arith, ints, same))) in
     let b : (suc q == 0) ≡ false = ne_eqb (suc q) 0 (λ e. omega (arith, e)) in
     (λ i. if a i then pos top else pos (suc q) -ℤ pos 1) ∙ omega (arith, ints) ∙ (let c : (if suc q == 0 then top else suc q - 1) ≡ suc q - 1 = (λ i. if b i then top else suc q - 1) in ap pos (sym c))
 
@@ -95,7 +98,9 @@ module _ {netlist : Circuit} {rank : ℕ → ℕ} {m : Module} {total last : ℕ
         ∙ counter-step q (frame.period * cycles - 1) in
         value-is run (suc clock) k (pos (count_of cycles frame (suc clock))) h (count-in frame is (count_of cycles frame (suc clock)) (count-most cycles frame names.0 (suc clock)))
         (edge run clock (naming.net k) (plain_number (net k).width (frame.latency * cycles + (frame.period * cycles - 1))) None (expression.Choose (test_of (wire k)) x y) below
-        (item-of run k h (Counter frame) is (item.Always (naming.net k) (plain_number (net k).width (frame.latency * cycles + (frame.period * cycles - 1))) None (expression.Choose (test_of (wire k)) x y)) (here _ []))
+        (item-of run k h (Counter frame) is (item.Always (naming.net k)
+        (plain_number (net k).width (frame.latency * cycles + (frame.period * cycles - 1))) None
+        (expression.Choose (test_of (wire k)) x y)) (here _ []))
         ∙ next-value m (row clock) (naming.net k) (net k).width (net k).signed (run.has.declared k h) (plain_number (net k).width (frame.latency * cycles + (frame.period * cycles - 1))) None
         (expression.Choose (test_of (wire k)) x y) true (if int_eq z (pos 0) then pos (frame.period * cycles - 1) else z -ℤ pos 1)
         (released run clock below) refl both
@@ -133,14 +138,20 @@ module _ {netlist : Circuit} {rank : ℕ → ℕ} {m : Module} {total last : ℕ
 
     pub slot-written : (slot : ℕ) → IsWritten (nets_of m) (row clock) 1 (pos (truth (slot_bit cycles frame q slot))) (slot_test cycles frame counter slot)
     slot-written slot = by (nat_lt slot (frame.period * cycles)) where
-      by : (t : Bool) → IsWritten (nets_of m) (row clock) 1 (pos (truth (if t then q == frame.period * cycles - 1 - slot else false))) (if t then counts counter (frame.period * cycles - 1 - slot) else zeros 1)
+      by : (t : Bool) → IsWritten (nets_of m) (row clock) 1
+          (pos (truth (if t then q == frame.period * cycles - 1 - slot else false)))
+          (if t then counts counter (frame.period * cycles - 1 - slot) else zeros 1)
       by true = counts-written (nets_of m) (row clock) counter q counter-known fits (frame.period * cycles - 1 - slot) (omega (arith, room))
       by false = zeros-written (nets_of m) (row clock) 1
 
     -- at the clocks of the slot, and at no others
-    pub slot-decides : (slot : ℕ) → ((slot_bit cycles frame q slot ≡ true) × TakesAt (span_of cycles frame) slot clock) ⊎ ((slot_bit cycles frame q slot ≡ false) × ¬ TakesAt (span_of cycles frame) slot clock)
+    pub slot-decides : (slot : ℕ) → ((slot_bit cycles frame q slot ≡ true)
+        × TakesAt (span_of cycles frame) slot clock)
+        ⊎ ((slot_bit cycles frame q slot ≡ false) × ¬ TakesAt (span_of cycles frame) slot clock)
     slot-decides slot = by (nat_lt slot (frame.period * cycles)) refl where
-      here-by : slot < frame.period * cycles → (t : Bool) → (q == frame.period * cycles - 1 - slot) ≡ t → ((t ≡ true) × TakesAt (span_of cycles frame) slot clock) ⊎ ((t ≡ false) × ¬ TakesAt (span_of cycles frame) slot clock)
+      here-by : slot < frame.period * cycles → (t : Bool) → (q == frame.period * cycles - 1 - slot) ≡ t
+          → ((t ≡ true) × TakesAt (span_of cycles frame) slot clock)
+          ⊎ ((t ≡ false) × ¬ TakesAt (span_of cycles frame) slot clock)
       here-by within true e =
           let same : pos q ≡ pos (frame.period * cycles - 1 - slot) = ap pos (eqb-true q (frame.period * cycles - 1 - slot) e) in
           inl (refl, (tells.takes slot clock within below).1 (now ∙ same))
@@ -152,7 +163,10 @@ module _ {netlist : Circuit} {rank : ℕ → ℕ} {m : Module} {total last : ℕ
           )
 
       by : (t : Bool) → nat_lt slot (frame.period * cycles) ≡ t
-          → (((if t then q == frame.period * cycles - 1 - slot else false) ≡ true) × TakesAt (span_of cycles frame) slot clock) ⊎ (((if t then q == frame.period * cycles - 1 - slot else false) ≡ false) × ¬ TakesAt (span_of cycles frame) slot clock)
+          → (((if t then q == frame.period * cycles - 1 - slot else false) ≡ true)
+          × TakesAt (span_of cycles frame) slot clock)
+          ⊎ (((if t then q == frame.period * cycles - 1 - slot else false) ≡ false)
+          × ¬ TakesAt (span_of cycles frame) slot clock)
       by true e = here-by (ltb-true slot (frame.period * cycles) e) (q == frame.period * cycles - 1 - slot) refl
       by false e =
           let past : frame.period * cycles ≤ slot = ltb-false slot (frame.period * cycles) e in
@@ -173,7 +187,9 @@ module _ {netlist : Circuit} {rank : ℕ → ℕ} {m : Module} {total last : ℕ
     live-written live some = at_least-written (nets_of m) (row clock) counter q counter-known fits ((frame.period - live) * cycles) (bound-fits live some)
 
     -- in the first clocks of the frame, and before the first
-    pub live-decides : (live : ℕ) → 0 < live → ((live_bit cycles frame q live ≡ true) × IsLive (span_of cycles frame) (live * cycles) clock) ⊎ ((live_bit cycles frame q live ≡ false) × ¬ IsLive (span_of cycles frame) (live * cycles) clock)
+    pub live-decides : (live : ℕ) → 0 < live
+        → ((live_bit cycles frame q live ≡ true) × IsLive (span_of cycles frame) (live * cycles) clock)
+        ⊎ ((live_bit cycles frame q live ≡ false) × ¬ IsLive (span_of cycles frame) (live * cycles) clock)
     live-decides live some = by (nat_lt q ((frame.period - live) * cycles)) refl where
       parts : (0 < frame.period) × (0 < cycles)
       parts = both-some frame.period cycles c.some

@@ -11,7 +11,8 @@ use Rattle.vl_ast.specs.declared.modules.ModItem.{ModItem}
 use Rattle.vl_ast.specs.declared.modules.ModItem.TheVariants as item
 use Rattle.vl_ast.specs.declared.modules.Module.{Module}
 use Rattle.vl_ast.specs.Conditions.{may_drive, may_drive_it, doubly}
-use Rattle.vl_ast.specs.Nets.{Declared, Mention, Declares, Drives, Reads, Clocks, Kind, InputPort, OutputPort, PlainWire, Register, port_declared, item_mentions, mentions, names_read, condition_names, declared_by, declarations, declaration_of}
+use Rattle.vl_ast.specs.Nets.{Declared, Mention, Declares, Drives, Reads, Clocks, Kind, InputPort, OutputPort, PlainWire, Register, port_declared, item_mentions, mentions, names_read, condition_names}
+use Rattle.vl_ast.specs.Nets.{declared_by, declarations, declaration_of}
 use Rattle.hw_net.specs.declared.netlist.Net.{Net}
 use Rattle.hw_net.specs.declared.netlist.NetPort.{NetPort}
 use Rattle.hw_net.specs.declared.netlist.NetKind.{NetKind}
@@ -74,7 +75,9 @@ module _ (cycles count : ℕ) (naming : Naming) (net : ℕ → Net) (outputs : L
   declared-pairs k h (Reg frame slot first from) = one-pair DifferD _
   declared-pairs k h (EnReg frame enable resets first from) = one-pair DifferD _
   declared-pairs k h (Bridge frame live from) =
-      pairs-cons DifferD (net_declared k PlainWire) (held_declared k ∷ []) (λ d c. one-of (λ (d : Declared). naming.net k ≢ d.name) (held_declared k) d (emitted.names.apart k k h h) c) (one-pair DifferD (held_declared k))
+      pairs-cons DifferD (net_declared k PlainWire) (held_declared k ∷ [])
+      (λ d c. one-of (λ (d : Declared). naming.net k ≢ d.name) (held_declared k) d
+      (emitted.names.apart k k h h) c) (one-pair DifferD (held_declared k))
 
   nets-declared : AllPairs DifferD (flat_map (λ k. declared_at k (net k).kind) (places count))
   nets-declared =
@@ -111,7 +114,9 @@ module _ (cycles count : ℕ) (naming : Naming) (net : ℕ → Net) (outputs : L
   declarations-are : declarations m ≡ map port_declared m.ports ++ flat_map (λ k. declared_at k (net k).kind) (places count)
   declarations-are =
       flat_map-append declared_by port_mentions (flat_map item_mentions m.items)
-      ∙ (let a : flat_map declared_by port_mentions ≡ map port_declared m.ports = flat_map-map declared_by (λ (port : Port). Declares (port_declared port)) m.ports ∙ flat_map_single port_declared m.ports in
+      ∙ (let a : flat_map declared_by port_mentions ≡ map port_declared m.ports =
+      flat_map-map declared_by (λ (port : Port). Declares (port_declared port)) m.ports
+      ∙ flat_map_single port_declared m.ports in
       (λ i. a i ++ items-declared i))
 
   pub declarations-differ : AllPairs DifferD (declarations m)
@@ -179,7 +184,9 @@ module _ (cycles count : ℕ) (naming : Naming) (net : ℕ → Net) (outputs : L
   other-pairs k h (EnReg frame enable true first from) = one-pair DifferN _
   other-pairs k h (EnReg frame enable false first from) = one-pair DifferN _
   other-pairs k h (Bridge frame live from) =
-      pairs-cons DifferN (naming.net k) (naming.hold k ∷ []) (λ name c. one-of (λ (other : List ℕ). naming.net k ≢ other) (naming.hold k) name (emitted.names.apart k k h h) c) (one-pair DifferN (naming.hold k))
+      pairs-cons DifferN (naming.net k) (naming.hold k ∷ [])
+      (λ name c. one-of (λ (other : List ℕ). naming.net k ≢ other) (naming.hold k) name
+      (emitted.names.apart k k h h) c) (one-pair DifferN (naming.hold k))
 
   abbrev all_units : List (List ℕ)
   all_units = flat_map (λ k. unit_names k (net k).kind) (places count)
@@ -232,7 +239,9 @@ module _ (cycles count : ℕ) (naming : Naming) (net : ℕ → Net) (outputs : L
       ∙ ap (flat_map item_drives) emitted.items
       ∙ flat_map-append item_drives declaring (units ++ (others ++ showing))
       ∙ (let a : flat_map item_drives declaring ≡ [] = flat_map-twice item_drives (λ k. declarers naming net k (net k).kind) (places count)
-      ∙ empty-list (flat_map (λ k. flat_map item_drives (declarers naming net k (net k).kind)) (places count)) (λ name c. (let r = of-one (λ k. flat_map item_drives (declarers naming net k (net k).kind)) (places count) name c in
+      ∙ empty-list (flat_map (λ k. flat_map item_drives (declarers naming net k (net k).kind)) (places count))
+      (λ name c. (let r = of-one (λ k. flat_map item_drives (declarers naming net k (net k).kind))
+      (places count) name c in
       no-element name (subst (λ (l : List (List ℕ)). Contains l name) (no-drives r.0 (net r.0).kind) r.2))) in
       let b : flat_map item_drives (units ++ (others ++ showing)) ≡ all_units ++ (all_others ++ all_shown) =
       flat_map-append item_drives units (others ++ showing)
@@ -273,14 +282,24 @@ module _ (cycles count : ℕ) (naming : Naming) (net : ℕ → Net) (outputs : L
   driver-may k h (Comb op args) is i c = one-of MayItem _ i (may-by false (net_declared k PlainWire) (declared-in k h (Comb op args) is _ (net_declared k PlainWire) (here _ []) refl) refl) c
   driver-may k h (Unit left right) is i c = one-of MayItem _ i (may-by false (net_declared k PlainWire) (declared-in k h (Unit left right) is _ (net_declared k PlainWire) (here _ []) refl) refl) c
   driver-may k h (Counter frame) is i c = one-of MayItem _ i (may-by true (net_declared k Register) (declared-in k h (Counter frame) is _ (net_declared k Register) (here _ []) refl) refl) c
-  driver-may k h (Reg frame slot first from) is i c = one-of MayItem _ i (may-by true (net_declared k Register) (declared-in k h (Reg frame slot first from) is _ (net_declared k Register) (here _ []) refl) refl) c
-  driver-may k h (EnReg frame enable true first from) is i c = one-of MayItem _ i (may-by true (net_declared k Register) (declared-in k h (EnReg frame enable true first from) is _ (net_declared k Register) (here _ []) refl) refl) c
-  driver-may k h (EnReg frame enable false first from) is i c = one-of MayItem _ i (may-by true (net_declared k Register) (declared-in k h (EnReg frame enable false first from) is _ (net_declared k Register) (here _ []) refl) refl) c
+  driver-may k h (Reg frame slot first from) is i c =
+      one-of MayItem _ i (may-by true (net_declared k Register)
+      (declared-in k h (Reg frame slot first from) is _ (net_declared k Register) (here _ []) refl) refl) c
+  driver-may k h (EnReg frame enable true first from) is i c =
+      one-of MayItem _ i (may-by true (net_declared k Register)
+      (declared-in k h (EnReg frame enable true first from) is _ (net_declared k Register) (here _ []) refl)
+      refl) c
+  driver-may k h (EnReg frame enable false first from) is i c =
+      one-of MayItem _ i (may-by true (net_declared k Register)
+      (declared-in k h (EnReg frame enable false first from) is _ (net_declared k Register) (here _ []) refl)
+      refl) c
   driver-may k h (Bridge frame live from) is i c =
       let held : Declared = record { name = naming.hold k; kind = Register; net = record { width = (net k).width; signed = (net k).signed } } in
       two-of MayItem _ (hold_driver cycles count naming net outputs k) i
       (may-by false (net_declared k PlainWire) (declared-in k h (Bridge frame live from) is _ (net_declared k PlainWire) (here _ (hold_declarer cycles count naming net outputs k ∷ [])) refl) refl)
-      (may-by true held (declared-in k h (Bridge frame live from) is (hold_declarer cycles count naming net outputs k) held (later _ _ (hold_declarer cycles count naming net outputs k ∷ []) (here _ [])) refl) refl) c
+      (may-by true held (declared-in k h (Bridge frame live from) is
+      (hold_declarer cycles count naming net outputs k) held
+      (later _ _ (hold_declarer cycles count naming net outputs k ∷ []) (here _ [])) refl) refl) c
 
   output-may : (output : NetPort) → Contains outputs output → May false output.name
   output-may output c =

@@ -1,6 +1,7 @@
 -- The drivers of each net break no condition on expressions, and read only the nets that the net names,
 -- the counter of its frame and itself.
-use Rattle.std.proofs.Common.{◌≡◌, inl, inr, ℕ, ◌+◌, ◌-◌, ◌*◌, ◌^◌, ◌<◌, ◌≤◌, nat_le, nat_lt, max, Bool, true, false, ◌&&◌, List, [], ◌∷◌, ◌++◌, get_or, Contains, Some, None, ℤ, ap, sym, ◌∙◌, subst, refl, arith, pow_pos, pow_mono}
+use Rattle.std.proofs.Common.{◌≡◌, inl, inr, ℕ, ◌+◌, ◌-◌, ◌*◌, ◌^◌, ◌<◌, ◌≤◌, nat_le, nat_lt, max, Bool, true, false, ◌&&◌, List, [], ◌∷◌, ◌++◌, get_or, Contains, Some, None, ℤ, ap, sym, ◌∙◌, subst}
+use Rattle.std.proofs.Common.{refl, arith, pow_pos, pow_mono}
 use Rattle.std.proofs.lemmas.Bool.{cond_both, le-leb, lt-ltb, and_from}
 use Rattle.std.proofs.lemmas.List.Elements.{Contains-append_cases}
 use Rattle.std.proofs.Math.Nat.{add-mul, mul-le-mul_right}
@@ -27,7 +28,8 @@ use Rattle.vl_emit.specs.inner.Clean.{IsClean, IsCleanItem}
 use Rattle.vl_emit.specs.inner.NetItems.{Naming, wire_of, plain_number, constant, counts, slot_test, live_test, drivers}
 use Rattle.vl_emit.proofs.ModuleNets.{first-or-later, no-element}
 use Rattle.vl_ast.proofs.SomeInputs.{bits-fit}
-use Rattle.vl_emit.proofs.CleanForms.{Readable, narrow, sound, literal-clean, binary-clean, choose-clean, net-clean, no-bits, test-clean, word-most, op-clean, product-length, product-sound, product-reads}
+use Rattle.vl_emit.proofs.CleanForms.{Readable, narrow, sound, literal-clean, binary-clean, choose-clean, net-clean, no-bits, test-clean, word-most, op-clean, product-length, product-sound}
+use Rattle.vl_emit.proofs.CleanForms.{product-reads}
 use Rattle.vl_emit.specs.inner.Operators.{expression_of}
 use Rattle.vl_emit.specs.inner.Sound.{NamedBy, IsSound, IsSoundKind, IsCounted}
 use Rattle.vl_emit.proofs.OfOperations.{width-at-least}
@@ -98,7 +100,8 @@ module _ (nets : List ℕ → DeclaredNet) (allowed : List ℕ → Type 0) where
   pub product-clean : (name : List ℕ) (w : ℕ) (x y : Wire) → 1 ≤ w → w ≤ 128 → Readable nets allowed x → Readable nets allowed y → CleanItem true (item.Assign name (product w x y))
   product-clean name w x y some most r s = record {
     sound = (let long : own_length nets (product w x y) ≤ 128 = (let l = product-length nets allowed w x y some most r s in omega (arith, l, most)) in
-        and_from (sound nets allowed (product w x y)) (nat_le (own_length nets (product w x y)) 128) (product-sound nets allowed w x y some most r s) (le-leb (own_length nets (product w x y)) 128 long));
+        and_from (sound nets allowed (product w x y)) (nat_le (own_length nets (product w x y)) 128)
+        (product-sound nets allowed w x y some most r s) (le-leb (own_length nets (product w x y)) 128 long));
     reads = λ z c. product-reads nets allowed w x y some most r s z c;
     products = λ t. absurd (cc t);
   }
@@ -178,13 +181,17 @@ module _ (nets : List ℕ → DeclaredNet) (allowed : List ℕ → Type 0) (cycl
     named-clean : (from : ℕ) → Readable nets allowed (wire from) → (net from).width ≡ (net k).width → IsClean nets allowed (net k).width (expression.Name (naming.net from))
     named-clean from r same = subst (λ (v : ℕ). IsClean nets allowed v (expression.Name (naming.net from))) same (net-clean nets allowed (wire from) r)
 
-    slot-of : (frame : Frame) (slot : ℕ) → IsCounted cycles count naming net frame → Readable nets allowed (wire (naming.counter frame)) → IsClean nets allowed 1 (slot_test cycles frame (wire (naming.counter frame)) slot)
+    slot-of : (frame : Frame) (slot : ℕ) → IsCounted cycles count naming net frame
+        → Readable nets allowed (wire (naming.counter frame))
+        → IsClean nets allowed 1 (slot_test cycles frame (wire (naming.counter frame)) slot)
     slot-of frame slot c r = slot-clean nets allowed cycles frame (wire (naming.counter frame)) r (counter-fits (naming.counter frame) frame c.there c.is) slot
 
     first-sound : (number : ℤ) → is_number (constant (net k).width number) ≡ true
     first-sound number = number-sound nets allowed (net k).width (bits_of (net k).width number) low high (bits-fit (net k).width number)
 
-    not-multiply : (op : NetOp) (args : List ℕ) → (net k).kind ≡ Comb op args → ¬ (op ≡ operation.Multiply) → IsCleanItem nets allowed false (item.Assign (naming.net k) (expression_of op naming.port (λ j. wire (get_or args j 0)) (net k).width))
+    not-multiply : (op : NetOp) (args : List ℕ) → (net k).kind ≡ Comb op args → ¬ (op ≡ operation.Multiply)
+        → IsCleanItem nets allowed false
+        (item.Assign (naming.net k) (expression_of op naming.port (λ j. wire (get_or args j 0)) (net k).width))
     not-multiply op args is other =
         let names = subst (IsSoundKind cycles count naming net rank k) is (sound.names k h) in
         assign-clean nets allowed (naming.net k) (net k).width (expression_of op naming.port (λ j. wire (get_or args j 0)) (net k).width) high
@@ -220,19 +227,27 @@ module _ (nets : List ℕ → DeclaredNet) (allowed : List ℕ → Type 0) (cycl
     drivers-clean (Reg frame slot first from) is i c =
         let names = subst (IsSoundKind cycles count naming net rank k) is (sound.names k h) in
         only false _ i (always-clean nets allowed (naming.net k) (constant (net k).width first) 1 (net k).width _ (expression.Name (naming.net from)) (omega arith) high (first-sound first)
-        (slot-of frame slot names.0 (may (Reg frame slot first from) is (naming.counter frame) names.0.there (inr refl))) (named-clean from (may (Reg frame slot first from) is from names.1.of.there (inl refl)) names.1.of.width)) c
+        (slot-of frame slot names.0 (may (Reg frame slot first from) is (naming.counter frame) names.0.there
+        (inr refl))) (named-clean from (may (Reg frame slot first from) is from names.1.of.there (inl refl))
+        names.1.of.width)) c
     drivers-clean (EnReg frame enable true first from) is i c =
         let names = subst (IsSoundKind cycles count naming net rank k) is (sound.names k h) in
         only false _ i (always-clean nets allowed (naming.net k) (constant (net k).width first) 1 (net k).width _ _ (omega arith) high (first-sound first)
         (slot-of frame (frame.period * cycles - 1) names.0 (may (EnReg frame enable true first from) is (naming.counter frame) names.0.there (inr (inl refl))))
         (choose-clean nets allowed (net k).width 1 (test_of (wire enable)) (expression.Name (naming.net from)) (expression.Literal (constant (net k).width first)) high (omega arith)
-        (test-clean nets allowed (wire enable) (may (EnReg frame enable true first from) is enable names.2 (inr (inr refl)))) (named-clean from (may (EnReg frame enable true first from) is from names.1.of.there (inl refl)) names.1.of.width)
+        (test-clean nets allowed (wire enable)
+        (may (EnReg frame enable true first from) is enable names.2 (inr (inr refl))))
+        (named-clean from (may (EnReg frame enable true first from) is from names.1.of.there (inl refl))
+        names.1.of.width)
         (literal-clean nets allowed (constant (net k).width first) low high (bits-fit (net k).width first)))) c
     drivers-clean (EnReg frame enable false first from) is i c =
         let names = subst (IsSoundKind cycles count naming net rank k) is (sound.names k h) in
         only false _ i (always-clean nets allowed (naming.net k) (constant (net k).width first) 1 (net k).width _ (expression.Name (naming.net from)) (omega arith) high (first-sound first)
         (binary-clean nets allowed 1 binary.Both (slot_test cycles frame (wire (naming.counter frame)) (frame.period * cycles - 1)) (test_of (wire enable)) (omega arith) (λ m. refl)
-        (slot-of frame (frame.period * cycles - 1) names.0 (may (EnReg frame enable false first from) is (naming.counter frame) names.0.there (inr (inl refl)))) (test-clean nets allowed (wire enable) (may (EnReg frame enable false first from) is enable names.2 (inr (inr refl)))))
+        (slot-of frame (frame.period * cycles - 1) names.0
+        (may (EnReg frame enable false first from) is (naming.counter frame) names.0.there (inr (inl refl))))
+        (test-clean nets allowed (wire enable)
+        (may (EnReg frame enable false first from) is enable names.2 (inr (inr refl)))))
         (named-clean from (may (EnReg frame enable false first from) is from names.1.of.there (inl refl)) names.1.of.width)) c
     drivers-clean (Bridge frame live from) is i c =
         let names = subst (IsSoundKind cycles count naming net rank k) is (sound.names k h) in
@@ -244,7 +259,9 @@ module _ (nets : List ℕ → DeclaredNet) (allowed : List ℕ → Type 0) (cycl
           | inl same ↦ subst (IsCleanItem nets allowed false) same
               (assign-clean nets allowed (naming.net k) (net k).width _ high
               (choose-clean nets allowed (net k).width 1 (live_test cycles frame (wire counter) live) (expression.Name (naming.net from)) (expression.Name (naming.hold k)) high (omega arith)
-              (live-clean nets allowed cycles frame (wire counter) (may (Bridge frame live from) is counter names.0.there (inr (inl refl))) fits live (bound-fits cycles frame live (2 ^ (net counter).width) names.0.some some fits))
+              (live-clean nets allowed cycles frame (wire counter)
+              (may (Bridge frame live from) is counter names.0.there (inr (inl refl))) fits live
+              (bound-fits cycles frame live (2 ^ (net counter).width) names.0.some some fits))
               (named-clean from (may (Bridge frame live from) is from names.2.there (inl refl)) names.3.width) (held frame live from is)))
           | inr after ↦ only false holding i
               (always-plain nets allowed (naming.hold k) (plain_number (net k).width 0) (net k).width (expression.Name (naming.net k)) high

@@ -70,14 +70,20 @@ gated-items netlist =
     let s : List ModItem = map (output_item (naming_of netlist)) netlist.outputs in
     let declared : map gated_item d ≡ d =
     map-each gated_item (λ k. declarers_at netlist k (net_at netlist.nets k).kind) (places n)
-    ∙ flat_map-same (λ k. map gated_item (declarers_at netlist k (net_at netlist.nets k).kind)) (λ k. declarers_at netlist k (net_at netlist.nets k).kind) (λ k. declarer-kept netlist k (net_at netlist.nets k).kind) (places n) in
+    ∙ flat_map-same (λ k. map gated_item (declarers_at netlist k (net_at netlist.nets k).kind))
+    (λ k. declarers_at netlist k (net_at netlist.nets k).kind)
+    (λ k. declarer-kept netlist k (net_at netlist.nets k).kind) (places n) in
     let units : map gated_item u ≡ u =
     map-each gated_item (λ k. units_at netlist k (net_at netlist.nets k).kind) (places n)
-    ∙ flat_map-same (λ k. map gated_item (units_at netlist k (net_at netlist.nets k).kind)) (λ k. units_at netlist k (net_at netlist.nets k).kind) (λ k. unit-kept netlist k (net_at netlist.nets k).kind) (places n) in
+    ∙ flat_map-same (λ k. map gated_item (units_at netlist k (net_at netlist.nets k).kind))
+    (λ k. units_at netlist k (net_at netlist.nets k).kind)
+    (λ k. unit-kept netlist k (net_at netlist.nets k).kind) (places n) in
     let others : map gated_item o ≡ first_gated netlist n = map-each gated_item (λ k. others_at netlist k (net_at netlist.nets k).kind) (places n) in
     let shown : map gated_item s ≡ s = shown-kept netlist netlist.outputs in
     map-append gated_item (d ++ (u ++ (o ++ s))) (shows_enable ∷ [])
-    ∙ ap (λ is. is ++ shows_enable ∷ []) (map-append gated_item d (u ++ (o ++ s)) ∙ (λ i. declared i ++ (map-append gated_item u (o ++ s) ∙ (λ j. units j ++ (map-append gated_item o s ∙ (λ k. others k ++ shown k)) j)) i))
+    ∙ ap (λ is. is ++ shows_enable ∷ []) (map-append gated_item d (u ++ (o ++ s))
+    ∙ (λ i. declared i ++ (map-append gated_item u (o ++ s)
+    ∙ (λ j. units j ++ (map-append gated_item o s ∙ (λ k. others k ++ shown k)) j)) i))
     ∙ append_assoc d (u ++ (first_gated netlist n ++ s)) (shows_enable ∷ [])
     ∙ ap (λ is. d ++ is) (append_assoc u (first_gated netlist n ++ s) (shows_enable ∷ []) ∙ ap (λ is. u ++ is) (append_assoc (first_gated netlist n) s (shows_enable ∷ [])))
 

@@ -1,5 +1,6 @@
 -- A factor of a product has the bits of its number in the context that it makes with the other factor.
-use Rattle.std.proofs.Common.{◌≡◌, ◌⊎◌, inl, inr, ℕ, ◌+◌, ◌-◌, ◌*◌, ◌%◌, ◌^◌, ◌<◌, ◌≤◌, ◌==◌, nat_le, nat_lt, max, min, Bool, true, false, ◌&&◌, if◌then◌else◌, List, ℤ, pos, negsuc, ◌*ℤ◌, ap, sym, ◌∙◌, subst, refl, arith, pow_mono}
+use Rattle.std.proofs.Common.{◌≡◌, ◌⊎◌, inl, inr, ℕ, ◌+◌, ◌-◌, ◌*◌, ◌%◌, ◌^◌, ◌<◌, ◌≤◌, ◌==◌, nat_le, nat_lt, max, min, Bool, true, false, ◌&&◌, if◌then◌else◌, List, ℤ, pos, negsuc, ◌*ℤ◌, ap, sym}
+use Rattle.std.proofs.Common.{◌∙◌, subst, refl, arith, pow_mono}
 use Rattle.std.proofs.lemmas.Int.{ints}
 use Rattle.std.proofs.lemmas.Bool.{and_cases, and_parts, and_right, cond_both, cond-true, eq-eqb, le-leb, leb-false, leb-true, lt-leb, ltb-false, or_parts}
 use Rattle.std.proofs.Math.Nat.{mod-eq_of_lt}
@@ -201,7 +202,9 @@ module _ (nets : List ℕ → Net) (row : List ℕ → ℕ) where
 
   -- and what that of any operation gives
   module _ (ports : ℕ → Wire) (given : ℕ → ℤ) (a : ℕ → Wire) (z : ℕ → ℤ) (w : ℕ) (some : 1 ≤ w) (most : w ≤ 128) where
-    pub op-assigned : (op : NetOp) → ((j : ℕ) → j < arity op → Shows nets row (a j) (z j)) → ((port : ℕ) → op ≡ operation.Input port → Shows nets row (ports port) (given port)) → IsWithin op (a 0).width
+    pub op-assigned : (op : NetOp) → ((j : ℕ) → j < arity op → Shows nets row (a j) (z j))
+        → ((port : ℕ) → op ≡ operation.Input port → Shows nets row (ports port) (given port))
+        → IsWithin op (a 0).width
         → assigned nets row w (expression_of op ports a w) ≡ bits_of w (given_by op given (operands nets row ports given a z w some most))
     op-assigned operation.Multiply known input bounds = product-assigned w (a 0) (a 1) (z 0) (z 1) some (known 0 (omega arith)) (known 1 (omega arith))
     op-assigned op known input bounds =

@@ -208,7 +208,10 @@ module _ (netlist : Circuit) (runs : IsNetlist netlist) (emits : IsEmittable net
           let below = input-there k port args h is in
           record {
             port = input_port netlist (port_at netlist.inputs port);
-            there = later clk _ (reset ∷ (ins ++ outs)) (later reset _ (ins ++ outs) (Contains-append_left ins outs _ (mapped (input_port netlist) netlist.inputs (port_at netlist.inputs port) (at-contains netlist.inputs port _ below))));
+            there = later clk _ (reset ∷ (ins ++ outs))
+                (later reset _ (ins ++ outs) (Contains-append_left ins outs _
+                (mapped (input_port netlist) netlist.inputs (port_at netlist.inputs port)
+                (at-contains netlist.inputs port _ below))));
             input = refl;
             name = refl;
             width = refl;

@@ -65,7 +65,9 @@ module _ (netlist : Circuit) (runs : IsNetlist netlist) (emits : IsEmittable net
       ]
   read-by k h i (inr e) of read r = absurd (net-differs netlist runs emits few (codes "ce_out") refl k (item_name i) of (sym (ap item_name e)))
 
-  register-was : (k from : ℕ) (value : Expr) (reset_value : Sized) (condition : Option Expr) → k < length netlist.nets → (frame : Frame) (slot : ℕ) (start : ℤ) → (net_at netlist.nets k).kind ≡ Reg frame slot start from
+  register-was : (k from : ℕ) (value : Expr) (reset_value : Sized) (condition : Option Expr)
+      → k < length netlist.nets → (frame : Frame) (slot : ℕ) (start : ℤ)
+      → (net_at netlist.nets k).kind ≡ Reg frame slot start from
       → (i : ModItem) → Contains (items_of netlist) i → gated_item i ≡ item.Always (name_of netlist k) reset_value condition value → value ≡ expression.Name (name_of netlist from)
   register-was k from value reset_value condition h frame slot start is (item.Wire signed width name) c e = absurd (cc e)
   register-was k from value reset_value condition h frame slot start is (item.Reg signed width name) c e = absurd (cc e)
@@ -75,7 +77,9 @@ module _ (netlist : Circuit) (runs : IsNetlist netlist) (emits : IsEmittable net
       let b : own ≡ value = cc e in
       sym b ∙ register-by netlist runs emits few k from name first was own a h frame slot start is (origin netlist runs emits few (item.Always name first was own) c)
 
-  register-from : (k from : ℕ) (value : Expr) (reset_value : Sized) (condition : Option Expr) → k < length netlist.nets → (frame : Frame) (slot : ℕ) (start : ℤ) → (net_at netlist.nets k).kind ≡ Reg frame slot start from
+  register-from : (k from : ℕ) (value : Expr) (reset_value : Sized) (condition : Option Expr)
+      → k < length netlist.nets → (frame : Frame) (slot : ℕ) (start : ℤ)
+      → (net_at netlist.nets k).kind ≡ Reg frame slot start from
       → IsGated netlist runs emits few (item.Always (name_of netlist k) reset_value condition value) ⊎ (shows_enable ≡ item.Always (name_of netlist k) reset_value condition value)
       → value ≡ expression.Name (name_of netlist from)
   register-from k from value reset_value condition h frame slot start is (inl g) = register-was k from value reset_value condition h frame slot start is g.was g.there g.is

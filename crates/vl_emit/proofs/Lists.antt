@@ -103,7 +103,9 @@ flat_map-same f g same [] = refl
 flat_map-same f g same (x ∷ xs) = (let rest = flat_map-same f g same xs in (λ i. same x i ++ rest i))
 
 -- a list that a loop makes place by place
-pub loop-step : {X : Type 0} (f : ℕ → List X) (n : ℕ) {start before after : Listing X} → Lists start before (flat_map f (places n)) → Lists before after (f n) → Lists start after (flat_map f (places (n + 1)))
+pub loop-step : {X : Type 0} (f : ℕ → List X) (n : ℕ) {start before after : Listing X}
+    → Lists start before (flat_map f (places n)) → Lists before after (f n)
+    → Lists start after (flat_map f (places (n + 1)))
 loop-step f n old put = lists-as (sym (one-more f n (n + 1) refl)) (both old put)
 
 -- a net that is read

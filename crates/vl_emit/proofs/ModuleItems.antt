@@ -85,7 +85,8 @@ module _ (netlist : Circuit) (runs : IsNetlist netlist) (emits : IsEmittable net
       (in-one (λ j. declarers (naming_of netlist) (net_at netlist.nets) j (net_at netlist.nets j).kind) (places (length netlist.nets)) k i (place-below (length netlist.nets) k h)
       (subst (λ (t : NetKind). Contains (declarers (naming_of netlist) (net_at netlist.nets) k t) i) (sym is) c))
 
-  driven : (k : ℕ) → k < length netlist.nets → (kind : NetKind) → (net_at netlist.nets k).kind ≡ kind → (i : ModItem) → Contains (drivers netlist.cycles (naming_of netlist) (net_at netlist.nets) k kind) i
+  driven : (k : ℕ) → k < length netlist.nets → (kind : NetKind) → (net_at netlist.nets k).kind ≡ kind
+      → (i : ModItem) → Contains (drivers netlist.cycles (naming_of netlist) (net_at netlist.nets) k kind) i
       → Contains (items_of netlist) i
   driven k h kind is i c =
       (has netlist runs emits few).items k h i
@@ -115,7 +116,12 @@ module _ (netlist : Circuit) (runs : IsNetlist netlist) (emits : IsEmittable net
         enable = λ k h. net-differs netlist runs emits few (codes "clk_enable") refl k (name_of netlist k) (inl refl);
         inputs = λ k input h below e.
             names.no_net (input_port netlist (port_at netlist.inputs input))
-            (later (bit_input (codes "clk")) _ (bit_input (codes "reset") ∷ (input_ports netlist ++ output_ports netlist)) (later (bit_input (codes "reset")) _ (input_ports netlist ++ output_ports netlist) (Contains-append_left (input_ports netlist) (output_ports netlist) _ (mapped (input_port netlist) netlist.inputs (port_at netlist.inputs input) (at-contains netlist.inputs input _ below)))))
+            (later (bit_input (codes "clk")) _
+            (bit_input (codes "reset") ∷ (input_ports netlist ++ output_ports netlist))
+            (later (bit_input (codes "reset")) _ (input_ports netlist ++ output_ports netlist)
+            (Contains-append_left (input_ports netlist) (output_ports netlist) _
+            (mapped (input_port netlist) netlist.inputs (port_at netlist.inputs input)
+            (at-contains netlist.inputs input _ below)))))
             k h (sym e);
       })
 
@@ -134,7 +140,8 @@ module _ (netlist : Circuit) (runs : IsNetlist netlist) (emits : IsEmittable net
   abbrev IsDriven : ℕ → NetKind → Type 0
   IsDriven k kind = Contains (mentions (module_of netlist)) (Drives (is_clocked kind) (name_of netlist k))
 
-  mentioned : (k : ℕ) → k < length netlist.nets → (kind : NetKind) → (net_at netlist.nets k).kind ≡ kind → (i : ModItem) → Contains (drivers netlist.cycles (naming_of netlist) (net_at netlist.nets) k kind) i
+  mentioned : (k : ℕ) → k < length netlist.nets → (kind : NetKind) → (net_at netlist.nets k).kind ≡ kind
+      → (i : ModItem) → Contains (drivers netlist.cycles (naming_of netlist) (net_at netlist.nets) k kind) i
       → DrivenBy (gated_item i) (Drives (is_clocked kind) (name_of netlist k)) → IsDriven k kind
   mentioned k h kind is i c e =
       driven-item (module_of netlist) (gated_item i) (Drives (is_clocked kind) (name_of netlist k)) (gated-there netlist runs emits few i (driven k h kind is i c)) e
@@ -158,9 +165,15 @@ module _ (netlist : Circuit) (runs : IsNetlist netlist) (emits : IsEmittable net
     declared = λ label c.
         let h = emits.labels.there label c in
         let word = (netlist-sound netlist runs emits.counters).word label.net h in
-        let own = kept-net netlist runs emits few (name_of netlist label.net) (net_at netlist.nets label.net).width (net_at netlist.nets label.net).signed ((has netlist runs emits few).declared label.net h)
+        let own = kept-net netlist runs emits few (name_of netlist label.net) (net_at netlist.nets label.net).width
+        (net_at netlist.nets label.net).signed ((has netlist runs emits few).declared label.net h)
         (width-at-least (net_at netlist.nets label.net).signed (net_at netlist.nets label.net).width word) in
-        subst (λ (name : List ℕ). nets_of (module_of netlist) name ≡ record { width = (net_at netlist.nets label.net).width; signed = (net_at netlist.nets label.net).signed }) (label-name label c) own;
+        subst (λ (name : List ℕ). nets_of (module_of netlist) name
+        ≡ record {
+          width = (net_at netlist.nets label.net).width;
+          signed =
+              (net_at netlist.nets label.net).signed;
+        }) (label-name label c) own;
     driven = λ label c.
         subst (λ (name : List ℕ). Contains (mentions (module_of netlist)) (Drives (is_clocked (net_at netlist.nets label.net).kind) name)) (label-name label c)
         (name-driven label.net (emits.labels.there label c) (net_at netlist.nets label.net).kind refl);

@@ -1,6 +1,7 @@
 -- Elements of lists that are made by a function from each place, and the net that a module declares of
 -- a name.
-use Rattle.std.proofs.Common.{◌≡◌, ◌≢◌, ◌⊎◌, inl, inr, ℕ, zero, suc, ◌+◌, ◌<◌, ◌^◌, Bool, true, false, if◌then◌else◌, List, [], ◌∷◌, ◌++◌, map, flat_map, find, Contains, get_or, bytes_eq, Some, refl, ap, sym, ◌∙◌, subst, arith}
+use Rattle.std.proofs.Common.{◌≡◌, ◌≢◌, ◌⊎◌, inl, inr, ℕ, zero, suc, ◌+◌, ◌<◌, ◌^◌, Bool, true, false, if◌then◌else◌, List, [], ◌∷◌, ◌++◌, map, flat_map, find, Contains, get_or, bytes_eq, Some, refl}
+use Rattle.std.proofs.Common.{ap, sym, ◌∙◌, subst, arith}
 use Rattle.std.proofs.lemmas.List.Elements.{Contains-append_left, Contains-append_right, Contains-append_cases, Contains-push, Contains-push_cases}
 use Rattle.std.proofs.lemmas.List.Concat.{flat_map-cons}
 use Rattle.std.proofs.lemmas.List.{flat_map_more}
@@ -12,7 +13,8 @@ use Rattle.vl_ast.specs.declared.modules.ModItem.{ModItem}
 use Rattle.vl_ast.specs.declared.modules.ModItem.TheVariants.{Wire, Reg, Assign, Always}
 use Rattle.vl_ast.specs.declared.modules.Module.{Module}
 use Rattle.vl_ast.specs.Context.{Net}
-use Rattle.vl_ast.specs.Nets.{Declared, Mention, Declares, Drives, Reads, Clocks, PlainWire, Register, port_declared, item_mentions, mentions, declared_by, declarations, nets_of, net_or_none, names_read, condition_names}
+use Rattle.vl_ast.specs.Nets.{Declared, Mention, Declares, Drives, Reads, Clocks, PlainWire, Register, port_declared, item_mentions, mentions, declared_by, declarations, nets_of, net_or_none}
+use Rattle.vl_ast.specs.Nets.{names_read, condition_names}
 use Rattle.vl_emit.specs.Names.{net_name, hold_name}
 use Rattle.hw_net.specs.Products.{places}
 

@@ -1,5 +1,6 @@
 -- The multiplications and the registers of the module of a netlist.
-use Rattle.std.proofs.Common.{max, ◌≡◌, ℕ, zero, suc, ◌^◌, ◌<◌, ◌≤◌, Bool, true, false, List, [], ◌∷◌, ◌++◌, map, flat_map, length, get_or, Contains, Option, Some, None, codes, refl, ap, sym, ◌∙◌, subst, arith, append-nil}
+use Rattle.std.proofs.Common.{max, ◌≡◌, ℕ, zero, suc, ◌^◌, ◌<◌, ◌≤◌, Bool, true, false, List, [], ◌∷◌, ◌++◌, map, flat_map, length, get_or, Contains, Option, Some, None, codes, refl, ap, sym, ◌∙◌}
+use Rattle.std.proofs.Common.{subst, arith, append-nil}
 use Rattle.std.specs.Prelude.{⊤}
 use Rattle.std.specs.List.{AllZip}
 use Rattle.std.proofs.lemmas.Grind.{flat_map-append}
@@ -155,7 +156,9 @@ module _ (netlist : Circuit) (runs : IsNetlist netlist) (emits : IsEmittable net
   readable : (j : ℕ) → j < length netlist.nets → Readable (nets_of (module_of netlist)) (λ name. ⊤) (wire_of (naming_of netlist) (net_at netlist.nets) j)
   readable j h = record { declared = kept j h; word = sound.word j h; may = tt }
 
-  input-readable : (k port : ℕ) (args : List ℕ) → k < length netlist.nets → (net_at netlist.nets k).kind ≡ Comb (Input port) args → Readable (nets_of (module_of netlist)) (λ name. ⊤) (input_wire netlist port)
+  input-readable : (k port : ℕ) (args : List ℕ) → k < length netlist.nets
+      → (net_at netlist.nets k).kind ≡ Comb (Input port) args
+      → Readable (nets_of (module_of netlist)) (λ name. ⊤) (input_wire netlist port)
   input-readable k port args h is =
       let em = emitted netlist runs emits few in
       let word = em.ports.words k port args h is in
@@ -270,7 +273,9 @@ module _ (netlist : Circuit) (runs : IsNetlist netlist) (emits : IsEmittable net
       (λ args is. (let names = subst (IsSoundKind cycles count naming net runs.ranked.0 k) is (sound.names k h) in
       product-zip k (get_or args 0 0) (get_or args 1 0) h (names.1 0 (omega arith)).there (names.1 1 (omega arith)).there))
       (λ left right is. tt)
-      (λ kind none bare is. subst (λ (l : List Product). AllZip (IsProduct netlist m) l (flat_map (item_multiplications nets) (other_drivers cycles naming net k kind))) (sym (bare (net k).width)) (no-zip _ (others-none k h kind is none)))
+      (λ kind none bare is. subst (λ (l : List Product). AllZip (IsProduct netlist m) l
+      (flat_map (item_multiplications nets) (other_drivers cycles naming net k kind)))
+      (sym (bare (net k).width)) (no-zip _ (others-none k h kind is none)))
 
   abbrev items : Items
   items = items_in cycles count naming net netlist.outputs
@@ -318,8 +323,12 @@ module _ (netlist : Circuit) (runs : IsNetlist netlist) (emits : IsEmittable net
       subst (AllZip (IsProduct netlist m) (products_of netlist))
       (sym (all ∙ (λ i. u i ++ append-nil (o i) i)))
       (zip-append (IsProduct netlist m) _ _ _ _
-      (zip-places (IsProduct netlist m) (λ k. unit_product (net k).width (net k).kind) (λ k. flat_map (item_multiplications nets) (unit_drivers cycles naming net k (net k).kind)) count (λ k h. unit-zip k h (net k).kind refl))
-      (zip-places (IsProduct netlist m) (λ k. comb_product (net k).width (net k).kind) (λ k. flat_map (item_multiplications nets) (other_drivers cycles naming net k (net k).kind)) count (λ k h. other-zip k h (net k).kind refl)))
+      (zip-places (IsProduct netlist m) (λ k. unit_product (net k).width (net k).kind)
+      (λ k. flat_map (item_multiplications nets) (unit_drivers cycles naming net k (net k).kind)) count
+      (λ k h. unit-zip k h (net k).kind refl))
+      (zip-places (IsProduct netlist m) (λ k. comb_product (net k).width (net k).kind)
+      (λ k. flat_map (item_multiplications nets) (other_drivers cycles naming net k (net k).kind)) count
+      (λ k h. other-zip k h (net k).kind refl)))
 
   -- the registers
   register-at : (k : ℕ) (kind : NetKind) → flat_map declared_register (declarers (naming_of netlist) (net_at netlist.nets) k kind) ≡ register_name netlist k kind
@@ -339,14 +348,19 @@ module _ (netlist : Circuit) (runs : IsNetlist netlist) (emits : IsEmittable net
   empty-places : {X : Type 0} (f : ℕ → List ModItem) (g : ModItem → List X) → ((k : ℕ) → flat_map g (f k) ≡ []) → flat_map g (flat_map f (places (length netlist.nets))) ≡ []
   empty-places f g h =
       flat_map-twice g f (places count)
-      ∙ empty-list (flat_map (λ k. flat_map g (f k)) (places count)) (λ x c. (let r = of-one (λ k. flat_map g (f k)) (places count) x c in no-element x (subst (λ (l : List _). Contains l x) (h r.0) r.2)))
+      ∙ empty-list (flat_map (λ k. flat_map g (f k)) (places count))
+      (λ x c. (let r = of-one (λ k. flat_map g (f k)) (places count) x c in
+      no-element x (subst (λ (l : List _). Contains l x) (h r.0) r.2)))
 
   pub registers-are : RegistersAre netlist (module_of netlist)
   registers-are = record {
     are =
         let u = empty-places (λ k. unit_drivers cycles naming net k (net k).kind) declared_register (λ k. no-register k (net k).kind) in
         let o = empty-places (λ k. other_drivers cycles naming net k (net k).kind) declared_register (λ k. none-more k (net k).kind) in
-        let s : flat_map declared_register showing ≡ [] = none-of-list declared_register showing (λ i c. (let r = of-mapped (output_item naming) netlist.outputs i c in subst (λ (x : ModItem). declared_register x ≡ []) r.2 refl)) in
+        let s : flat_map declared_register showing ≡ [] =
+        none-of-list declared_register showing
+        (λ i c. (let r = of-mapped (output_item naming) netlist.outputs i c in
+        subst (λ (x : ModItem). declared_register x ≡ []) r.2 refl)) in
         with-enable declared_register gated-register refl (items_of netlist)
         ∙ flat_map-append declared_register declaring (units ++ (others ++ showing))
         ∙ (λ i. flat_map declared_register declaring ++ flat_map-append declared_register units (others ++ showing) i)

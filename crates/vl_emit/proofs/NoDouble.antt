@@ -36,13 +36,17 @@ module _ (m : Module) where
   MayBe (Reads name) = ⊤
   MayBe Clocks = ⊤
 
-  declares-other : (d : Declared) (before : List Mention) → ((e : Declared) → Contains (flat_map declared_by before) e → DifferD e d) → (y : Mention) → Contains before y → is_declaration_of d.name y ≡ false
+  declares-other : (d : Declared) (before : List Mention)
+      → ((e : Declared) → Contains (flat_map declared_by before) e → DifferD e d) → (y : Mention)
+      → Contains before y → is_declaration_of d.name y ≡ false
   declares-other d before new (Declares e) c = unequal e.name d.name (new e (in-one declared_by before (Declares e) e c (here e [])))
   declares-other d before new (Drives clocked name) c = refl
   declares-other d before new (Reads name) c = refl
   declares-other d before new Clocks c = refl
 
-  drives-other : (name : List ℕ) (before : List Mention) → ((other : List ℕ) → Contains (flat_map driven_by before) other → other ≢ name) → (y : Mention) → Contains before y → is_driver_of name y ≡ false
+  drives-other : (name : List ℕ) (before : List Mention)
+      → ((other : List ℕ) → Contains (flat_map driven_by before) other → other ≢ name) → (y : Mention)
+      → Contains before y → is_driver_of name y ≡ false
   drives-other name before new (Declares e) c = refl
   drives-other name before new (Drives clocked other) c = unequal other name (new other (in-one driven_by before (Drives clocked other) other c (here other [])))
   drives-other name before new (Reads other) c = refl

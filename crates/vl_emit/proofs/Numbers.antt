@@ -1,5 +1,6 @@
 -- The number that bits of a word show, and the bits of the number.
-use Rattle.std.proofs.Common.{◌≡◌, ℕ, ◌-◌, ◌%◌, ◌^◌, ◌<◌, ◌≤◌, nat_le, Bool, true, false, List, Contains, find, bytes_eq, Option, None, Some, ℤ, pos, negsuc, ◌-ℤ◌, ap, sym, ◌∙◌, subst, refl, arith, pow_pos}
+use Rattle.std.proofs.Common.{◌≡◌, ℕ, ◌-◌, ◌%◌, ◌^◌, ◌<◌, ◌≤◌, nat_le, Bool, true, false, List, Contains, find, bytes_eq, Option, None, Some, ℤ, pos, negsuc, ◌-ℤ◌, ap, sym, ◌∙◌, subst, refl, arith}
+use Rattle.std.proofs.Common.{pow_pos}
 use Rattle.std.proofs.lemmas.Int.{ints}
 use Rattle.std.proofs.lemmas.Bool.{cond_both, leb-true, leb-false}
 use Rattle.std.proofs.lemmas.Slice.Eq.{bytes_eq-Decides}
@@ -92,6 +93,8 @@ declaration-by m name net (Some d) is e h =
     let f = found-is (λ (declared : Declared). bytes_eq declared.name name) (declarations m) d is in
     record { declared = d; there = f.0; name_is = (bytes_eq-Decides d.name name).0 f.1; net_is = e }
 
-pub declaration-there : (m : Module) (name : List ℕ) (w : ℕ) (signed : Bool) → nets_of m name ≡ record { width = w; signed = signed } → 1 ≤ w → HasDeclaration m name (record { width = w; signed = signed })
+pub declaration-there : (m : Module) (name : List ℕ) (w : ℕ) (signed : Bool)
+    → nets_of m name ≡ record { width = w; signed = signed } → 1 ≤ w
+    → HasDeclaration m name (record { width = w; signed = signed })
 declaration-there m name w signed e h =
     declaration-by m name (record { width = w; signed = signed }) (find (λ declared. bytes_eq declared.name name) (declarations m)) refl e h

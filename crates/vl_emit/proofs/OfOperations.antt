@@ -1,5 +1,6 @@
 -- The expression of each operation has the bits of its number.
-use Rattle.std.proofs.Common.{max, ◌≡◌, ℕ, ◌+◌, ◌-◌, ◌*◌, ◌/◌, ◌%◌, ◌^◌, ◌<◌, ◌≤◌, ◌==◌, nat_le, nat_lt, Bool, true, false, not, if◌then◌else◌, List, [], ◌∷◌, ℤ, pos, negsuc, ◌*ℤ◌, int_lt, ap, sym, ◌∙◌, subst, refl, arith, pow_pos, pow_mono, mul_assoc}
+use Rattle.std.proofs.Common.{max, ◌≡◌, ℕ, ◌+◌, ◌-◌, ◌*◌, ◌/◌, ◌%◌, ◌^◌, ◌<◌, ◌≤◌, ◌==◌, nat_le, nat_lt, Bool, true, false, not, if◌then◌else◌, List, [], ◌∷◌, ℤ, pos, negsuc, ◌*ℤ◌, int_lt, ap, sym}
+use Rattle.std.proofs.Common.{◌∙◌, subst, refl, arith, pow_pos, pow_mono, mul_assoc}
 use Rattle.std.proofs.lemmas.Int.{ints}
 use Rattle.std.proofs.lemmas.Bool.{or_parts, cond_both, eqb-true, eqb-false, leb-true, leb-false, ltb-false}
 use Rattle.std.proofs.lemmas.Bool.Decides.{Decides-int_eq}
@@ -28,7 +29,8 @@ use Rattle.vl_emit.proofs.Bitwise.{low-bits, and-written, or-written, xor-writte
 use Rattle.vl_ast.proofs.Forms.{by_itself}
 use Rattle.math_num.proofs.Words.{size-below, size-half, size_of}
 use Rattle.vl_emit.proofs.AtWidth.{piece-plain, as-name, split-bits, zeros-written, beside-written, piece-written, operand-written, alone-written, cut-bits}
-use Rattle.vl_emit.proofs.Operations.{shift-bits, number-back, less_plain-written, add-written, subtract-written, negate-written, shift-written, literal-written, choose-written, equal-written, not_equal-written, less-written, same-bits}
+use Rattle.vl_emit.proofs.Operations.{shift-bits, number-back, less_plain-written, add-written, subtract-written, negate-written, shift-written, literal-written, choose-written, equal-written}
+use Rattle.vl_emit.proofs.Operations.{not_equal-written, less-written, same-bits}
 use Rattle.vl_ast.proofs.SomeInputs.{bits-fit}
 
 pub truth-number : (t : Bool) → pos (truth t) ≡ truth_number t
@@ -199,7 +201,10 @@ module _ (nets : List ℕ → Net) (row : List ℕ → ℕ) where
         back1 = plain-back (a 1).signed (a 1).width short (z 1) neither.1 t.word t.in_word (omega arith)
 
       less-by : (b : Bool) → by_sign (a 0) (a 1) ≡ b
-          → (let common : ℕ = (if b then long else short) in Written 1 (pos (truth (int_lt (z 0) (z 1)))) (expression.Binary binary.Less (compared b (at_width common (a 0))) (compared b (at_width common (a 1)))))
+          → (let common : ℕ = (if b then long else short) in
+          Written 1 (pos (truth (int_lt (z 0) (z 1))))
+          (expression.Binary binary.Less (compared b (at_width common (a 0)))
+          (compared b (at_width common (a 1)))))
       less-by true is =
           less-written nets row long (z 0) (z 1) (at_width long (a 0)) (at_width long (a 1))
           (operand-written nets row long (a 0) (z 0) fit0.0 s) (operand-written nets row long (a 1) (z 1) fit0.0 t) fit0.0 fit0.1 fit1.1
@@ -213,10 +218,14 @@ module _ (nets : List ℕ → Net) (row : List ℕ → ℕ) where
       equal-by true is =
           subst (λ (b : Bool). Written 1 (pos (truth b)) (in_width binary.Equal long a))
           (same-bits long true (z 0) (z 1) (number-back long (z 0) fit0.0 fit0.1) (number-back long (z 1) fit0.0 fit1.1))
-          (equal-written nets row long (z 0) (z 1) (at_width long (a 0)) (at_width long (a 1)) (operand-written nets row long (a 0) (z 0) fit0.0 s) (operand-written nets row long (a 1) (z 1) fit0.0 t))
+          (equal-written nets row long (z 0) (z 1) (at_width long (a 0)) (at_width long (a 1))
+          (operand-written nets row long (a 0) (z 0) fit0.0 s)
+          (operand-written nets row long (a 1) (z 1) fit0.0 t))
       equal-by false is =
           subst (λ (b : Bool). Written 1 (pos (truth b)) (in_width binary.Equal short a)) (same-bits short false (z 0) (z 1) (back0 is) (back1 is))
-          (equal-written nets row short (z 0) (z 1) (at_width short (a 0)) (at_width short (a 1)) (operand-written nets row short (a 0) (z 0) some-short s) (operand-written nets row short (a 1) (z 1) some-short t))
+          (equal-written nets row short (z 0) (z 1) (at_width short (a 0)) (at_width short (a 1))
+          (operand-written nets row short (a 0) (z 0) some-short s)
+          (operand-written nets row short (a 1) (z 1) some-short t))
 
       less-op : Written w (given_by Less given operands) (expression_of Less ports a w)
       less-op =
@@ -228,7 +237,9 @@ module _ (nets : List ℕ → Net) (row : List ℕ → ℕ) where
       equal-op = widened-written w (int_eq (z 0) (z 1)) (in_width binary.Equal (common_width (a 0) (a 1)) a) some (equal-by (by_sign (a 0) (a 1)) refl)
 
     -- an operation that isn't a Multiply
-    pub op-written : (op : NetOp) → ((j : ℕ) → j < arity op → Known j) → ((port : ℕ) → op ≡ Input port → Shows nets row (ports port) (given port)) → IsWithin op (a 0).width → ¬ (op ≡ Multiply) → Written w (given_by op given operands) (expression_of op ports a w)
+    pub op-written : (op : NetOp) → ((j : ℕ) → j < arity op → Known j)
+        → ((port : ℕ) → op ≡ Input port → Shows nets row (ports port) (given port)) → IsWithin op (a 0).width
+        → ¬ (op ≡ Multiply) → Written w (given_by op given operands) (expression_of op ports a w)
     op-written (Input port) known input bounds other = operand-written nets row w (ports port) (given port) some (input port refl)
     op-written (Const number) known input bounds other = literal-written nets row w number
     op-written Resize known input bounds other = at 0 (known 0 (omega arith))

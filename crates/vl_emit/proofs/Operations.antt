@@ -1,5 +1,6 @@
 -- Operators over operands that are written at a width.
-use Rattle.std.proofs.Common.{◌≡◌, ℕ, ◌+◌, ◌-◌, ◌*◌, ◌%◌, ◌^◌, ◌<◌, ◌≤◌, ◌==◌, nat_le, max, Bool, true, false, not, ◌&&◌, if◌then◌else◌, List, ℤ, pos, negsuc, neg_ℤ, ◌+ℤ◌, ◌-ℤ◌, ◌*ℤ◌, int_lt, ap, sym, ◌∙◌, refl, arith}
+use Rattle.std.proofs.Common.{◌≡◌, ℕ, ◌+◌, ◌-◌, ◌*◌, ◌%◌, ◌^◌, ◌<◌, ◌≤◌, ◌==◌, nat_le, max, Bool, true, false, not, ◌&&◌, if◌then◌else◌, List, ℤ, pos, negsuc, neg_ℤ, ◌+ℤ◌, ◌-ℤ◌, ◌*ℤ◌, int_lt, ap, sym}
+use Rattle.std.proofs.Common.{◌∙◌, refl, arith}
 use Rattle.std.proofs.lemmas.Int.{ints}
 use Rattle.std.proofs.lemmas.Bool.{eqb-true, eqb-false, lt-leb, le-leb}
 use Rattle.std.proofs.lemmas.Bool.Decides.{Decides-int_eq}
@@ -17,7 +18,8 @@ use Rattle.vl_ast.specs.Context.{Net, own_length, is_signed}
 use Rattle.vl_ast.specs.Value.{extended, is_negative, number_of, truth, value_in}
 use Rattle.vl_ast.specs.Value.{bits_of}
 use Rattle.vl_emit.specs.inner.AtWidth.{IsWritten}
-use Rattle.vl_ast.proofs.Forms.{length-Unary, length-Binary, length-Shift, length-Choose, length-AsSigned, length-Literal, sign-AsSigned, value-Unary, value-Binary, value-Shift, value-Choose, value-AsSigned, value-Literal, by_itself}
+use Rattle.vl_ast.proofs.Forms.{length-Unary, length-Binary, length-Shift, length-Choose, length-AsSigned, length-Literal, sign-AsSigned, value-Unary, value-Binary, value-Shift, value-Choose}
+use Rattle.vl_ast.proofs.Forms.{value-AsSigned, value-Literal, by_itself}
 use Rattle.vl_emit.proofs.AtWidth.{alone-written, extended-same}
 use Rattle.math_num.proofs.Residues.{congruent-neg}
 use Rattle.vl_ast.proofs.SomeInputs.{bits-fit}
@@ -65,7 +67,9 @@ number-back c (negsuc n) h half =
     rw (mod-eq_of_lt whole, large) (omega (arith, ints))
 
 -- two numbers that their bits give have the same bits only where they are the same
-pub same-bits : (c : ℕ) (signed : Bool) (a b : ℤ) → number_of (record { width = c; signed = signed; bits = bits_of c a }) ≡ a → number_of (record { width = c; signed = signed; bits = bits_of c b }) ≡ b
+pub same-bits : (c : ℕ) (signed : Bool) (a b : ℤ)
+    → number_of (record { width = c; signed = signed; bits = bits_of c a }) ≡ a
+    → number_of (record { width = c; signed = signed; bits = bits_of c b }) ≡ b
     → (bits_of c a == bits_of c b) ≡ int_eq a b
 same-bits c signed a b f g = by (bits_of c a == bits_of c b) (int_eq a b) refl refl where
   by : (x y : Bool) → (bits_of c a == bits_of c b) ≡ x → int_eq a b ≡ y → x ≡ y

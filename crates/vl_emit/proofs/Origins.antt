@@ -95,7 +95,9 @@ module _ (netlist : Circuit) (runs : IsNetlist netlist) (emits : IsEmittable net
   abbrev Drives : ℕ → ModItem → Type 0
   Drives k i = IsOf k (item_name i)
 
-  pub driver-of : (k : ℕ) (kind : NetKind) (i : ModItem) → Contains (drivers netlist.cycles (naming_of netlist) (net_at netlist.nets) k kind) i → (item_name i ≡ name_of netlist k) ⊎ (item_name i ≡ hold_name k)
+  pub driver-of : (k : ℕ) (kind : NetKind) (i : ModItem)
+      → Contains (drivers netlist.cycles (naming_of netlist) (net_at netlist.nets) k kind) i
+      → (item_name i ≡ name_of netlist k) ⊎ (item_name i ≡ hold_name k)
   driver-of k (Comb op args) i c = one-of (Drives k) _ i (inl refl) c
   driver-of k (Unit left right) i c = one-of (Drives k) _ i (inl refl) c
   driver-of k (Counter frame) i c = one-of (Drives k) _ i (inl refl) c
@@ -125,7 +127,8 @@ module _ (netlist : Circuit) (runs : IsNetlist netlist) (emits : IsEmittable net
     driver-clean i c =
         drivers-clean (nets_of (plain_module netlist)) allowed cycles count naming net runs.ranked.0 is_sound k h
         (λ j below n. record { declared = has.declared j below; word = is_sound.word j below; may = named j below n })
-        (λ frame live from is. name-clean (nets_of (plain_module netlist)) allowed (naming.hold k) (net k).width (ap (λ (n : DeclaredNet). n.width) (has.held k h frame live from is)) (held frame live from is))
+        (λ frame live from is. name-clean (nets_of (plain_module netlist)) allowed (naming.hold k) (net k).width
+        (ap (λ (n : DeclaredNet). n.width) (has.held k h frame live from is)) (held frame live from is))
         (λ place args is. (let p = is_emitted.ports.inputs k place args h is in
         record {
           declared = named-net cycles count naming net runs.ranked.0 netlist.outputs (plain_module netlist) is_sound is_emitted true (naming.port place) p;
@@ -152,7 +155,13 @@ module _ (netlist : Circuit) (runs : IsNetlist netlist) (emits : IsEmittable net
   may-read k (Counter frame) ready j e = ap (name_of netlist) (sym e)
   may-read k (Reg frame slot first from) ready j (inl e) = inl (record { net = j; named = subst (Contains (from ∷ [])) e (here from []); is = refl })
   may-read k (Reg frame slot first from) ready j (inr e) = inr (counter-name frame ready.0 j e)
-  may-read k (EnReg frame enable resets first from) ready j (inl e) = inl (record { net = j; named = subst (Contains (enable ∷ from ∷ [])) e (later enable from (from ∷ []) (here from [])); is = refl })
+  may-read k (EnReg frame enable resets first from) ready j (inl e) =
+      inl (record {
+        net = j;
+        named = subst (Contains (enable ∷ from ∷ [])) e
+            (later enable from (from ∷ []) (here from []));
+        is = refl;
+      })
   may-read k (EnReg frame enable resets first from) ready j (inr (inl e)) = inr (counter-name frame ready.0 j e)
   may-read k (EnReg frame enable resets first from) ready j (inr (inr e)) = inl (record { net = j; named = subst (Contains (enable ∷ from ∷ [])) e (here enable (from ∷ [])); is = refl })
   may-read k (Bridge frame live from) ready j (inl e) = inl (record { net = j; named = subst (Contains (from ∷ [])) e (here from []); is = refl })
@@ -165,7 +174,8 @@ module _ (netlist : Circuit) (runs : IsNetlist netlist) (emits : IsEmittable net
   may-input : (k : ℕ) (kind : NetKind) (port : ℕ) (args : List ℕ) → kind ≡ Comb (Input port) args → MayRead netlist k kind (input_wire netlist port).name
   may-input k kind port args e = subst (λ (t : NetKind). MayRead netlist k t (input_wire netlist port).name) (sym e) (inr (port, refl, refl))
 
-  pub reads-of : (k : ℕ) → k < length netlist.nets → (i : ModItem) → Origin i → IsOf k (item_name i) → (read : List ℕ) → Contains (item_reads i) read → MayRead netlist k (net_at netlist.nets k).kind read
+  pub reads-of : (k : ℕ) → k < length netlist.nets → (i : ModItem) → Origin i → IsOf k (item_name i)
+      → (read : List ℕ) → Contains (item_reads i) read → MayRead netlist k (net_at netlist.nets k).kind read
   reads-of k h i (Declaring j p c) of read r =
       let d = declarer-of j (net j).kind i c in absurd (no-element read (subst (λ (l : List (List ℕ)). Contains l read) d.1 r))
   reads-of k h i (Driving j p c) of read r =

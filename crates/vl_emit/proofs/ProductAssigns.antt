@@ -20,7 +20,8 @@ use Rattle.vl_emit.specs.inner.NetItems.{output_item, naming_of, module_of, unit
 use Rattle.vl_emit.specs.inner.Sound.{IsSound, IsSoundKind}
 use Rattle.vl_emit.proofs.ModuleNets.{no-element, in-one, of-one, of-mapped}
 use Rattle.vl_emit.proofs.Lists.{empty-list, flat_map-twice}
-use Rattle.vl_emit.proofs.Multiplications.{by-kind, declared-bare, gated-products, gated-same, name-products, others-none, product-alone, product_value, products-zip, shown-bare, zip-append, zip-places}
+use Rattle.vl_emit.proofs.Multiplications.{by-kind, declared-bare, gated-products, gated-same, name-products, others-none, product-alone, product_value, products-zip, shown-bare, zip-append}
+use Rattle.vl_emit.proofs.Multiplications.{zip-places}
 use Rattle.vl_emit.proofs.EnablePorts.{gated-items}
 use Rattle.vl_emit.proofs.Sounds.{netlist-sound}
 
@@ -54,7 +55,9 @@ module _ (netlist : Circuit) (runs : IsNetlist netlist) (emits : IsEmittable net
       (multiplications_of_item (nets_of (module_of netlist)) (item.Assign ((naming_of netlist).net k) (product_value netlist runs emits few k left right)) ++ [])
   product-assigned k left right h p q =
       let i : ModItem = item.Assign ((naming_of netlist).net k) (product_value netlist runs emits few k left right) in
-      subst (λ (l : List Multiplication). AllZip (IsAssigned netlist) (products_of_net k (record { left = left; right = right; width = (net k).width } ∷ [])) (map (λ (y : Multiplication). record { item = i; multiplication = y }) l ++ []))
+      subst (λ (l : List Multiplication). AllZip (IsAssigned netlist)
+      (products_of_net k (record { left = left; right = right; width = (net k).width } ∷ []))
+      (map (λ (y : Multiplication). record { item = i; multiplication = y }) l ++ []))
       (sym (product-alone netlist runs emits few k left right h p q))
       (record { is = refl }, tt)
 
@@ -80,7 +83,9 @@ module _ (netlist : Circuit) (runs : IsNetlist netlist) (emits : IsEmittable net
       (λ args is. (let names = subst (IsSoundKind netlist.cycles count (naming_of netlist) net runs.ranked.0 k) is (sound.names k h) in
       product-assigned k (get_or args 0 0) (get_or args 1 0) h (names.1 0 (omega arith)).there (names.1 1 (omega arith)).there))
       (λ left right is. tt)
-      (λ kind none bare is. (let gone = no-pairs (map gated_item (others_at netlist k kind)) (gated-same (item_multiplications nets) (gated-products nets) (others_at netlist k kind) ∙ others-none netlist runs emits few k h kind is none) in
+      (λ kind none bare is. (let gone = no-pairs (map gated_item (others_at netlist k kind))
+      (gated-same (item_multiplications nets) (gated-products nets) (others_at netlist k kind)
+      ∙ others-none netlist runs emits few k h kind is none) in
       subst (λ (l : List Product). AllZip (IsAssigned netlist) (products_of_net k l) (flat_map pairs (map gated_item (others_at netlist k kind)))) (sym (bare (net k).width))
       (subst (AllZip (IsAssigned netlist) []) (sym gone) tt)))
 
@@ -114,8 +119,12 @@ module _ (netlist : Circuit) (runs : IsNetlist netlist) (emits : IsEmittable net
       subst (AllZip (IsAssigned netlist) (net_products netlist))
       (sym (all ∙ (λ i. u i ++ append-nil (o i) i)))
       (zip-append (IsAssigned netlist) _ _ _ _
-      (zip-places (IsAssigned netlist) (λ k. products_of_net k (unit_product (net k).width (net k).kind)) (λ k. flat_map pairs (units_at netlist k (net k).kind)) count (λ k h. unit-assigned k h (net k).kind refl))
-      (zip-places (IsAssigned netlist) (λ k. products_of_net k (comb_product (net k).width (net k).kind)) (λ k. flat_map pairs (map gated_item (others_at netlist k (net k).kind))) count (λ k h. other-assigned k h (net k).kind refl)))
+      (zip-places (IsAssigned netlist) (λ k. products_of_net k (unit_product (net k).width (net k).kind))
+      (λ k. flat_map pairs (units_at netlist k (net k).kind)) count
+      (λ k h. unit-assigned k h (net k).kind refl))
+      (zip-places (IsAssigned netlist) (λ k. products_of_net k (comb_product (net k).width (net k).kind))
+      (λ k. flat_map pairs (map gated_item (others_at netlist k (net k).kind))) count
+      (λ k h. other-assigned k h (net k).kind refl)))
 
   pub products-are : ProductsAre netlist (module_of netlist)
   products-are = record { each = products-zip netlist runs emits few; assigned = all-assigned }

@@ -1,5 +1,6 @@
 -- In a run registers, bridges and counters go on as the netlist says.
-use Rattle.std.proofs.Common.{◌≡◌, ◌≢◌, ◌⊎◌, inl, inr, ℕ, suc, ◌+◌, ◌-◌, ◌*◌, ◌%◌, ◌<◌, ◌==◌, Bool, true, false, not, ◌&&◌, if◌then◌else◌, List, [], ◌∷◌, Contains, ℤ, pos, ◌+ℤ◌, ◌≤ℤ◌, Option, Some, None, ap, sym, ◌∙◌, subst, refl, arith, add-one, pow_pos}
+use Rattle.std.proofs.Common.{◌≡◌, ◌≢◌, ◌⊎◌, inl, inr, ℕ, suc, ◌+◌, ◌-◌, ◌*◌, ◌%◌, ◌<◌, ◌==◌, Bool, true, false, not, ◌&&◌, if◌then◌else◌, List, [], ◌∷◌, Contains, ℤ, pos, ◌+ℤ◌, ◌≤ℤ◌, Option, Some}
+use Rattle.std.proofs.Common.{None, ap, sym, ◌∙◌, subst, refl, arith, add-one, pow_pos}
 use Rattle.std.proofs.lemmas.Int.{ints}
 use Rattle.std.proofs.lemmas.Bool.Decides.{Decides-int_eq}
 use Rattle.std.proofs.Math.Nat.{mod-eq_of_lt}
@@ -71,7 +72,9 @@ module _ {netlist : Circuit} {rank : ℕ → ℕ} {m : Module} {total last : ℕ
         → value k (suc clock) ≡ (if t then z else value k clock)
     taken clock kind is first condition e t z below c within p q =
         value-is run (suc clock) k (if t then z else value k clock) h within
-        (edge run clock (naming.net k) (constant (net k).width first) (Some condition) e below (item-of run k h kind is (item.Always (naming.net k) (constant (net k).width first) (Some condition) e) c)
+        (edge run clock (naming.net k) (constant (net k).width first) (Some condition) e below
+        (item-of run k h kind is
+        (item.Always (naming.net k) (constant (net k).width first) (Some condition) e) c)
         ∙ next-value m (row clock) (naming.net k) (net k).width (net k).signed (run.has.declared k h) (constant (net k).width first) (Some condition) e t z
         (released run clock below) (condition-told (nets_of m) (row clock) t condition p) q
         ∙ ap (λ (b : ℕ). if t then bits_of (net k).width z else b) (bits-of-value run clock k (omega (arith, below)) h)
@@ -90,7 +93,9 @@ module _ {netlist : Circuit} {rank : ℕ → ℕ} {m : Module} {total last : ℕ
         let names = names-of run k h (Reg frame slot first from) is in
         let earlier : clock < clocks = omega (arith, below) in
         let t : Bool = slot_bit cycles frame (count_of cycles frame clock) slot in
-        let is_next = taken clock (Reg frame slot first from) is first (slot_test cycles frame (wire (naming.counter frame)) slot) (expression.Name (naming.net from)) t (value from clock) below (here _ [])
+        let is_next = taken clock (Reg frame slot first from) is first
+        (slot_test cycles frame (wire (naming.counter frame)) slot) (expression.Name (naming.net from)) t
+        (value from clock) below (here _ [])
         (either-in t (value from clock) (value k clock) (same-word clock from earlier names.1.of) (own-in clock earlier))
         (slot-written run telling clock earlier frame names.0 slot) (from-written clock from earlier names.1.of) in
         by t is_next (slot-decides run telling clock earlier frame names.0 slot)
@@ -148,7 +153,9 @@ module _ {netlist : Circuit} {rank : ℕ → ℕ} {m : Module} {total last : ℕ
         let slot : ℕ = frame.period * cycles - 1 in
         let z : ℤ = (if is-off clock enable then first else value from clock) in
         taken clock (EnReg frame enable true first from) is first (slot_test cycles frame (wire (naming.counter frame)) slot) (expression.Choose test x y) (slot-comes clock frame) z below (here _ [])
-        (either-in (slot-comes clock frame) z (value k clock) (either-in (is-off clock enable) first (value from clock) names.1.first_in (same-word clock from earlier names.1.of)) (own-in clock earlier))
+        (either-in (slot-comes clock frame) z (value k clock)
+        (either-in (is-off clock enable) first (value from clock) names.1.first_in
+        (same-word clock from earlier names.1.of)) (own-in clock earlier))
         (slot-written run telling clock earlier frame names.0 slot)
         (choose-written (nets_of m) (row clock) (net k).width (value from clock) first (is-off clock enable) test x y
         (test-tells (nets_of m) (row clock) (wire enable) (value enable clock) (known run clock enable earlier names.2))
@@ -176,13 +183,18 @@ module _ {netlist : Circuit} {rank : ℕ → ℕ} {m : Module} {total last : ℕ
 
     module _ (frame : Frame) (live from : ℕ) (is : (net k).kind ≡ Bridge frame live from) where
       has-hold : Contains m.items (item.Always (naming.hold k) (plain_number (net k).width 0) None (expression.Name (naming.net k)))
-      has-hold = item-of run k h (Bridge frame live from) is (item.Always (naming.hold k) (plain_number (net k).width 0) None (expression.Name (naming.net k))) (later _ _ (item.Always (naming.hold k) (plain_number (net k).width 0) None (expression.Name (naming.net k)) ∷ []) (here _ []))
+      has-hold = item-of run k h (Bridge frame live from) is
+          (item.Always (naming.hold k) (plain_number (net k).width 0) None (expression.Name (naming.net k)))
+          (later _ _ (item.Always (naming.hold k) (plain_number (net k).width 0) None
+          (expression.Name (naming.net k)) ∷ []) (here _ []))
 
       -- the held value is the net's own of the clock before
       held-bits : (clock : ℕ) → suc clock < clocks → row (suc clock) (naming.hold k) ≡ bits_of (net k).width (value k clock)
       held-bits clock below =
           edge run clock (naming.hold k) (plain_number (net k).width 0) None (expression.Name (naming.net k)) below has-hold
-          ∙ next-value m (row clock) (naming.hold k) (net k).width (net k).signed (run.has.held k h frame live from is) (plain_number (net k).width 0) None (expression.Name (naming.net k)) true (value k clock)
+          ∙ next-value m (row clock) (naming.hold k) (net k).width (net k).signed
+          (run.has.held k h frame live from is) (plain_number (net k).width 0) None
+          (expression.Name (naming.net k)) true (value k clock)
           (released run clock below) refl
           (as-name (nets_of m) (row clock) (wire k) (value k clock) (known run clock k (omega (arith, below)) h))
 
@@ -209,7 +221,9 @@ module _ {netlist : Circuit} {rank : ℕ → ℕ} {m : Module} {total last : ℕ
           let hold : Expr = expression.Name (naming.hold k) in
           let q = name-written (nets_of m) (row clock) (naming.hold k) (net k).width (net k).signed y (run.has.held k h frame live from is) held in
           assigned-bits run clock k (expression.Choose test x hold) (if not l then y else value from clock) h below
-          (item-of run k h (Bridge frame live from) is (item.Assign (naming.net k) (expression.Choose test x hold)) (here _ (item.Always (naming.hold k) (plain_number (net k).width 0) None (expression.Name (naming.net k)) ∷ [])))
+          (item-of run k h (Bridge frame live from) is (item.Assign (naming.net k) (expression.Choose test x hold))
+          (here _ (item.Always (naming.hold k) (plain_number (net k).width 0) None
+          (expression.Name (naming.net k)) ∷ [])))
           (assigned-written (nets_of m) (row clock) (net k).width (if not l then y else value from clock) (expression.Choose test x hold)
           (choose-written (nets_of m) (row clock) (net k).width (value from clock) y (not l) test x hold
           (ap (λ (b : ℕ). b == 0) (alone-written (nets_of m) (row clock) 1 (pos (truth l)) test told) ∙ no-bit l) (from-written clock from below names.3) q))

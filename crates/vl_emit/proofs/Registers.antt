@@ -1,5 +1,6 @@
 -- What a register takes at an edge, and what the tests on a counter tell.
-use Rattle.std.proofs.Common.{◌≡◌, ℕ, zero, suc, ◌*◌, ◌%◌, ◌^◌, ◌<◌, ◌==◌, nat_lt, max, Bool, true, false, not, ◌&&◌, if◌then◌else◌, List, ℤ, pos, int_lt, Option, codes, ap, sym, ◌∙◌, subst, refl, arith}
+use Rattle.std.proofs.Common.{◌≡◌, ℕ, zero, suc, ◌*◌, ◌%◌, ◌^◌, ◌<◌, ◌==◌, nat_lt, max, Bool, true, false, not, ◌&&◌, if◌then◌else◌, List, ℤ, pos, int_lt, Option, codes, ap, sym, ◌∙◌, subst, refl}
+use Rattle.std.proofs.Common.{arith}
 use Rattle.std.proofs.lemmas.Bool.{and_right}
 use Rattle.std.proofs.Math.Nat.{mod-eq_of_lt}
 use Rattle.math_num.specs.Word.{IsCongruent}

@@ -12,7 +12,8 @@ use Rattle.vl_ast.specs.declared.expressions.Expr.{Expr}
 use Rattle.vl_ast.specs.declared.expressions.Expr.TheOpen.{Expr-F}
 use Rattle.vl_ast.specs.declared.expressions.Expr.TheViews.{roll-Expr}
 use Rattle.vl_ast.specs.declared.expressions.Expr.TheFolds.{map-Expr, fold-roll-Expr}
-use Rattle.vl_ast.specs.declared.expressions.Expr.TheVariants.{Name, Bit, Part, Literal, Concat, Repeat, AsSigned, Unary, Binary, Shift, Choose, rolls-Name, rolls-Bit, rolls-Part, rolls-Literal, rolls-Concat, rolls-Repeat, rolls-AsSigned, rolls-Unary, rolls-Binary, rolls-Shift, rolls-Choose}
+use Rattle.vl_ast.specs.declared.expressions.Expr.TheVariants.{Name, Bit, Part, Literal, Concat, Repeat, AsSigned, Unary, Binary, Shift, Choose, rolls-Name, rolls-Bit, rolls-Part, rolls-Literal}
+use Rattle.vl_ast.specs.declared.expressions.Expr.TheVariants.{rolls-Concat, rolls-Repeat, rolls-AsSigned, rolls-Unary, rolls-Binary, rolls-Shift, rolls-Choose}
 use Rattle.vl_ast.specs.Grammar.{depth, depth_step, is_filled, is_filled_step}
 use Rattle.hw_net.specs.declared.netlist.Frame.{Frame}
 use Rattle.hw_net.specs.declared.netlist.NetOp.{NetOp}
@@ -182,10 +183,14 @@ module _ (ports a : ℕ → Wire) (width : ℕ) where
       let c : ℕ = common_width (a 0) (a 1) in
       let b : Bool = by_sign (a 0) (a 1) in
       short-widened width (Binary binary.Less (compared b (at_width c (a 0))) (compared b (at_width c (a 1))))
-      (short-binary 3 binary.Less (compared b (at_width c (a 0))) (compared b (at_width c (a 1))) (short-compared b (at_width c (a 0)) (short-at c (a 0))) (short-compared b (at_width c (a 1)) (short-at c (a 1))))
+      (short-binary 3 binary.Less (compared b (at_width c (a 0))) (compared b (at_width c (a 1)))
+      (short-compared b (at_width c (a 0)) (short-at c (a 0)))
+      (short-compared b (at_width c (a 1)) (short-at c (a 1))))
   short-operation operation.Equal = short-widened width (in_width binary.Equal (common_width (a 0) (a 1)) a) (deeper 3 4 _ (omega arith) (short-two binary.Equal (common_width (a 0) (a 1)) a))
   short-operation operation.Choose =
-      at-most _ (short-choose 2 (test_of (a 0)) (at_width width (a 1)) (at_width width (a 2)) (deeper 1 2 (test_of (a 0)) (omega arith) (short-test (a 0))) (short-at width (a 1)) (short-at width (a 2)))
+      at-most _ (short-choose 2 (test_of (a 0)) (at_width width (a 1)) (at_width width (a 2))
+      (deeper 1 2 (test_of (a 0)) (omega arith) (short-test (a 0))) (short-at width (a 1))
+      (short-at width (a 2)))
   short-operation (operation.Slice high low) = at-most _ (short-slice width (a 0) low (high + 1 - low))
 
 pub short-slot : (cycles : ℕ) (frame : Frame) (counter : Wire) (slot : ℕ) → IsShort 1 (slot_test cycles frame counter slot)

@@ -38,7 +38,9 @@ module _ (netlist : Circuit) (runs : IsNetlist netlist) (emits : IsEmittable net
         rows-are running telling stepping runs
         (λ k h clock port args is below.
         wire-shows (plain_module netlist) total start inputs rows run_plain (last + 1 + clock) (omega (arith, below)) (input_wire netlist port)
-        (named-net netlist.cycles (length netlist.nets) (naming_of netlist) (net_at netlist.nets) runs.ranked.0 netlist.outputs (plain_module netlist) sound em true (input_wire netlist port) (em.ports.inputs k port args h is))
+        (named-net netlist.cycles (length netlist.nets) (naming_of netlist)
+        (net_at netlist.nets) runs.ranked.0 netlist.outputs (plain_module netlist) sound em true
+        (input_wire netlist port) (em.ports.inputs k port args h is))
         (em.ports.words k port args h is));
   }
 
@@ -55,7 +57,9 @@ module _ (netlist : Circuit) (runs : IsNetlist netlist) (emits : IsEmittable net
         let own = kept-net netlist runs emits few (name_of netlist output.net) width signed ((has netlist runs emits few).declared output.net h) some in
         let shows = wire-shows (module_of netlist) total start inputs rows run k below (net_wire netlist output.net) own (sound.word output.net h) in
         let declared = kept-net netlist runs emits few output.name width signed
-        (named-net netlist.cycles (length netlist.nets) (naming_of netlist) (net_at netlist.nets) runs.ranked.0 netlist.outputs (plain_module netlist) sound em false (wire_of_output (net_at netlist.nets) output) (em.ports.outputs_are output c)) some in
+        (named-net netlist.cycles (length netlist.nets) (naming_of netlist)
+        (net_at netlist.nets) runs.ranked.0 netlist.outputs (plain_module netlist) sound em false
+        (wire_of_output (net_at netlist.nets) output) (em.ports.outputs_are output c)) some in
         run.assigns k below output.name (expression.Name (name_of netlist output.net))
         (gated-there netlist runs emits few _ (has-outputs netlist.cycles (length netlist.nets) (naming_of netlist) (net_at netlist.nets) netlist.outputs output c))
         ∙ ap (λ (n : DeclaredNet). assigned (nets_of m) (rows k) n.width (expression.Name (name_of netlist output.net))) declared

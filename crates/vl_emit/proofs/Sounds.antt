@@ -1,5 +1,6 @@
 -- A netlist that can be run and has its Counters is sound, net by net.
-use Rattle.std.proofs.Common.{◌≡◌, ℕ, suc, ◌+◌, ◌-◌, ◌*◌, ◌<◌, Bool, true, false, if◌then◌else◌, List, [], ◌∷◌, length, get_or, slice_get, Contains, Option, Some, pos, refl, ap, sym, ◌∙◌, subst, arith}
+use Rattle.std.proofs.Common.{◌≡◌, ℕ, suc, ◌+◌, ◌-◌, ◌*◌, ◌<◌, Bool, true, false, if◌then◌else◌, List, [], ◌∷◌, length, get_or, slice_get, Contains, Option, Some, pos, refl, ap, sym, ◌∙◌, subst}
+use Rattle.std.proofs.Common.{arith}
 use Rattle.std.specs.Prelude.{All, IsSome, unwrap_or}
 use Rattle.std.proofs.lemmas.Option.{slice_get-get_or, get_or_from_slice_get, slice_get_within}
 use Rattle.std.proofs.lemmas.List.Elements.{All-contains}
@@ -178,8 +179,12 @@ module _ (netlist : Circuit) (runs : IsNetlist netlist) (counted : HasCounters n
       (counted-of frame (timed frame w.is_kind.0 (w.frames frame refl)), record { of = has-word k from w.is_kind.1; first_in = w.is_kind.2 })
   sound-by k h (EnReg frame enable reset_too first from) w =
       (counted-of frame (timed frame w.is_kind.0 (w.frames frame refl)), record { of = has-word k from w.is_kind.1; first_in = w.is_kind.2 }, w.there 0 0 (omega arith))
-  sound-by k h (Bridge frame live from) w =
-      (counted-of frame (timed frame w.is_kind.0 (w.frames frame refl)), mul-pos w.is_kind.1 runs.cycles, record { there = w.there 0 0 (omega arith); before = w.falls 0 0 (omega arith) }, has-word k from w.is_kind.2)
+  sound-by k h (Bridge frame live from) w = (
+    counted-of frame (timed frame w.is_kind.0 (w.frames frame refl)),
+    mul-pos w.is_kind.1 runs.cycles,
+    record { there = w.there 0 0 (omega arith); before = w.falls 0 0 (omega arith) },
+    has-word k from w.is_kind.2,
+  )
   sound-by k h (Unit left right) w =
       (record { there = w.there 0 0 (omega arith); before = w.falls 0 0 (omega arith) }, record { there = w.there 1 0 (omega arith); before = w.falls 1 0 (omega arith) })
   sound-by k h (Counter frame) w =

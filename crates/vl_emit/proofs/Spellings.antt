@@ -1,5 +1,6 @@
 -- Some text spells the module of a netlist.
-use Rattle.std.proofs.Common.{◌≡◌, ◌⊎◌, inl, inr, ℕ, ◌-◌, ◌*◌, ◌^◌, ◌<◌, ◌≤◌, ◌==◌, if◌then◌else◌, get_or, Bool, true, false, ◌&&◌, List, [], ◌∷◌, ◌++◌, length, Contains, Some, None, codes, refl, ap, sym, ◌∙◌, subst, arith}
+use Rattle.std.proofs.Common.{◌≡◌, ◌⊎◌, inl, inr, ℕ, ◌-◌, ◌*◌, ◌^◌, ◌<◌, ◌≤◌, ◌==◌, if◌then◌else◌, get_or, Bool, true, false, ◌&&◌, List, [], ◌∷◌, ◌++◌, length, Contains, Some, None, codes, refl, ap}
+use Rattle.std.proofs.Common.{sym, ◌∙◌, subst, arith}
 use Rattle.std.specs.Prelude.{⊤}
 use Rattle.std.specs.List.{list_all}
 use Rattle.std.proofs.lemmas.List.Elements.{Contains-append_left, Contains-append_right, Contains-append_cases}
@@ -106,7 +107,10 @@ module _ (netlist : Circuit) (runs : IsNetlist netlist) (emits : IsEmittable net
   driver-short k (Comb op args) i c = one-of AreShort _ i (short-operation (naming_of netlist).port (λ j. wire (get_or args j 0)) (net_at netlist.nets k).width op) c
   driver-short k (Unit left right) i c = one-of AreShort _ i (up 4 _ (omega arith) (short-product (net_at netlist.nets k).width (wire left) (wire right))) c
   driver-short k (Counter frame) i c =
-      one-of AreShort _ i (up 2 _ (omega arith) (short-choose 1 _ _ _ (short-test (wire k)) (short-binary 0 binary.Subtract _ _ (short-name _) (short-literal _)) (deeper 0 1 _ (omega arith) (short-literal _)))) c
+      one-of AreShort _ i (up 2 _ (omega arith)
+      (short-choose 1 _ _ _ (short-test (wire k))
+      (short-binary 0 binary.Subtract _ _ (short-name _) (short-literal _))
+      (deeper 0 1 _ (omega arith) (short-literal _)))) c
   driver-short k (Reg frame slot first from) i c = one-of AreShort _ i (up 1 _ (omega arith) (short-slot netlist.cycles frame (counter frame) slot), up 0 _ (omega arith) (short-name _)) c
   driver-short k (EnReg frame enable true first from) i c =
       one-of AreShort _ i (

@@ -164,7 +164,9 @@ module _ (cycles count : ℕ) (naming : Naming) (net : ℕ → Net) (rank : ℕ 
   clean k h i c =
       drivers-clean (nets_of m) DeclaredName cycles count naming net rank sound k h
       (λ j below named. record { declared = has.declared j below; word = sound.word j below; may = net-declared j below })
-      (λ frame live from is. name-clean (nets_of m) DeclaredName (naming.hold k) (net k).width (ap (λ (n : DeclaredNet). n.width) (has.held k h frame live from is)) (hold-declared k h frame live from is))
+      (λ frame live from is. name-clean (nets_of m) DeclaredName (naming.hold k) (net k).width
+      (ap (λ (n : DeclaredNet). n.width) (has.held k h frame live from is))
+      (hold-declared k h frame live from is))
       (λ place args is. (let p = emitted.ports.inputs k place args h is in
       record {
         declared = named-net cycles count naming net rank outputs m sound emitted true (naming.port place) p;
@@ -249,7 +251,9 @@ module _ (cycles count : ℕ) (naming : Naming) (net : ℕ → Net) (rank : ℕ 
         | inr o ↦ (let r = of-mapped (output_item naming) outputs i o in
             let k : ℕ = r.0.net in
             let h = emitted.ports.there r.0 r.1 in
-            subst SoundItem r.2 (assign-clean (nets_of m) DeclaredName r.0.name (net k).width (expression.Name (naming.net k)) (word-most (nets_of m) DeclaredName (net k).width (net k).signed (sound.word k h))
+            subst SoundItem r.2 (assign-clean (nets_of m) DeclaredName r.0.name (net k).width
+            (expression.Name (naming.net k))
+            (word-most (nets_of m) DeclaredName (net k).width (net k).signed (sound.word k h))
             (name-clean (nets_of m) DeclaredName (naming.net k) (net k).width (ap (λ (n : DeclaredNet). n.width) (has.declared k h)) (net-declared k h))).sound)
       ]
     ]

@@ -87,7 +87,9 @@ module _ {netlist : Circuit} {rank : ℕ → ℕ} {m : Module} {total last : ℕ
     starts-by input below (Bridge frame live from) is = bridge-begins run telling k h frame live from is below
 
     steps-by : InputsShow → (clock : ℕ) → suc clock < clocks → (kind : NetKind) → (net k).kind ≡ kind
-        → NetSteps cycles clock (λ number. given number (suc clock)) (λ number. value number clock) (λ number. value number (suc clock)) (net k).width (net k).signed kind (value k clock) (value k (suc clock))
+        → NetSteps cycles clock (λ number. given number (suc clock)) (λ number. value number clock)
+        (λ number. value number (suc clock)) (net k).width (net k).signed kind (value k clock)
+        (value k (suc clock))
     steps-by input clock below (Comb op args) is = comb-goes (suc clock) op args is below (λ port e. input (suc clock) port args (is ∙ ap (λ (o : NetOp). Comb o args) e) below)
     steps-by input clock below (Unit left right) is = unit-goes (suc clock) left right is below
     steps-by input clock below (Counter frame) is = counter-goes run telling k h clock frame is below
@@ -95,14 +97,19 @@ module _ {netlist : Circuit} {rank : ℕ → ℕ} {m : Module} {total last : ℕ
     steps-by input clock below (EnReg frame enable resets first from) is = en-goes run telling k h clock frame enable resets first from is below
     steps-by input clock below (Bridge frame live from) is =
         let e : suc clock ≡ clock + 1 = sym (add-one clock) in
-        subst (λ (c : ℕ). BridgeSteps (span_of cycles frame) (live * cycles) c (value from (suc clock)) (value k clock) (value k (suc clock))) e (bridge-goes run telling k h frame live from is clock below)
+        subst (λ (c : ℕ). BridgeSteps (span_of cycles frame) (live * cycles) c (value from (suc clock))
+        (value k clock) (value k (suc clock))) e (bridge-goes run telling k h frame live from is clock below)
 
     goes-by : InputsShow → (clock : ℕ) → clock < clocks
-        → NetGoes cycles clock (λ number. given number clock) (λ number. value number (clock - 1)) (λ number. value number clock) (net k).width (net k).signed (net k).kind (value k (clock - 1)) (value k clock)
+        → NetGoes cycles clock (λ number. given number clock) (λ number. value number (clock - 1))
+        (λ number. value number clock) (net k).width (net k).signed (net k).kind (value k (clock - 1))
+        (value k clock)
     goes-by input zero below = starts-by input below (net k).kind refl
     goes-by input (suc clock) below =
         let e : clock ≡ suc clock - 1 = omega arith in
-        subst (λ (c : ℕ). NetSteps cycles clock (λ number. given number (suc clock)) (λ number. value number c) (λ number. value number (suc clock)) (net k).width (net k).signed (net k).kind (value k c) (value k (suc clock)))
+        subst (λ (c : ℕ). NetSteps cycles clock (λ number. given number (suc clock)) (λ number. value number c)
+        (λ number. value number (suc clock)) (net k).width (net k).signed (net k).kind (value k c)
+        (value k (suc clock)))
         e (steps-by input clock below (net k).kind refl)
 
   pub rows-are : CounterIsTelling → StepsGiveRows → IsNetlist netlist
@@ -113,6 +120,8 @@ module _ {netlist : Circuit} {rank : ℕ → ℕ} {m : Module} {total last : ℕ
       (λ clock below. record {
         each = λ k n there. (let h : k < count = slice_get_within netlist.nets k n there in
             let same : net k ≡ n = get_or_from_slice_get netlist.nets k n no_net there in
-            subst (λ (x : Net). NetGoes cycles clock (λ number. given number clock) (λ number. value number (clock - 1)) (λ number. value number clock) x.width x.signed x.kind (value k (clock - 1)) (value k clock))
+            subst (λ (x : Net). NetGoes cycles clock (λ number. given number clock)
+            (λ number. value number (clock - 1)) (λ number. value number clock) x.width x.signed x.kind
+            (value k (clock - 1)) (value k clock))
             same (goes-by telling k h (input k h) clock below));
       })

@@ -1,5 +1,6 @@
 -- The operations of an assignment, of a condition and of a register's next bits.
-use Rattle.std.proofs.Common.{◌≡◌, ◌<◌, ◌≤◌, ◌+◌, ◌-◌, ◌%◌, ◌^◌, ◌==◌, not, ℕ, max, Bool, true, false, if◌then◌else◌, List, [], ◌∷◌, ◌++◌, length, codes, Option, None, Some, sym, ap, subst, ◌∙◌, arith}
+use Rattle.std.proofs.Common.{◌≡◌, ◌<◌, ◌≤◌, ◌+◌, ◌-◌, ◌%◌, ◌^◌, ◌==◌, not, ℕ, max, Bool, true, false, if◌then◌else◌, List, [], ◌∷◌, ◌++◌, length, codes, Option, None, Some, sym, ap, subst, ◌∙◌}
+use Rattle.std.proofs.Common.{arith}
 use Rattle.std.proofs.Math.Nat.{max_comm, mod-eq_of_lt, div-one}
 use Rattle.std.proofs.lemmas.List.{length-append}
 use Rattle.vl_ast.specs.declared.expressions.Sized.{Sized}
@@ -48,7 +49,8 @@ module _ (by_layer : ByLayer) (base : ℕ) (scope : Scope) (slots : List ℕ) wh
       → value_in nets (row values) (max shape.length width) shape.signed e ≡ value_in nets (row values) (max width (own_length nets e)) (is_signed nets e) e
   in-context e width shape l g values = (λ i. value_in nets (row values) (max (l i) width) (g i) e) ∙ ap (λ n. value_in nets (row values) n (is_signed nets e) e) (max_comm (own_length nets e) width)
 
-  pub assigns-whole : (e : Expr) (before after : List Op) (slot width : ℕ) (shape : Shape) → is_sound nets e ≡ true → shape.length ≡ own_length nets e → shape.signed ≡ is_signed nets e → shape.length ≤ width
+  pub assigns-whole : (e : Expr) (before after : List Op) (slot width : ℕ) (shape : Shape) → is_sound nets e ≡ true
+      → shape.length ≡ own_length nets e → shape.signed ≡ is_signed nets e → shape.length ≤ width
       → Built base scope slots before after slot (max shape.length width) shape.signed e → Assigns base scope slots before after slot width e
   assigns-whole e before after slot width shape ok l g short b = record {
     grows = b.grows;
@@ -57,7 +59,9 @@ module _ (by_layer : ByLayer) (base : ℕ) (scope : Scope) (slots : List ℕ) wh
         let value' = b.shows.is values s fit ∙ in-context e width shape l g values in
         let same : max width (own_length nets e) ≡ width = omega (arith, l, short) in
         let low : value_in nets (row values) (max width (own_length nets e)) (is_signed nets e) e < 2 ^ width =
-        subst (λ w. value_in nets (row values) w (is_signed nets e) e < 2 ^ width) (sym same) (value-fits by_layer nets (row values) e (steps-of nets e ok) fit width (is_signed nets e) (omega (arith, l, short))) in
+        subst (λ w. value_in nets (row values) w (is_signed nets e) e < 2 ^ width) (sym same)
+        (value-fits by_layer nets (row values) e (steps-of nets e ok) fit width (is_signed nets e)
+        (omega (arith, l, short))) in
         value' ∙ sym (mod-eq_of_lt low);
   }
 
@@ -97,7 +101,9 @@ module _ (by_layer : ByLayer) (base : ℕ) (scope : Scope) (slots : List ℕ) wh
     by false e = ap (λ z. if z then a else b) e
 
   -- the names of a register's item but `reset` and its own
-  pub placed-rest : (ops : List Op) (name : List ℕ) (condition : Option Expr) (value : Expr) → ArePlaced base scope slots ops (next_names name condition value) → ArePlaced base scope slots ops (condition_names condition ++ names_read value)
+  pub placed-rest : (ops : List Op) (name : List ℕ) (condition : Option Expr) (value : Expr)
+      → ArePlaced base scope slots ops (next_names name condition value)
+      → ArePlaced base scope slots ops (condition_names condition ++ names_read value)
   placed-rest ops name condition value p =
       let names = condition_names condition ++ names_read value in
       record {
@@ -117,8 +123,15 @@ module _ (by_layer : ByLayer) (base : ℕ) (scope : Scope) (slots : List ℕ) wh
   captures-next name first condition value before one two after width test taken reset kept bits slot net number isr isk placed t a p =
       let both = grows-more base before one two t.grows a.grows in
       let longer = grows-length base before two both in
-      let rbelow : reset < base + length two = (let b = placed.below (codes "reset") (head-in (codes "reset") (name ∷ (condition_names condition ++ names_read value))) in omega (arith, isr, b, longer)) in
-      let kbelow : kept < base + length two = (let b = placed.below name (tail-in (codes "reset") name (name ∷ (condition_names condition ++ names_read value)) (head-in name (condition_names condition ++ names_read value))) in omega (arith, isk, b, longer)) in
+      let rbelow : reset < base + length two =
+      (let b = placed.below (codes "reset")
+      (head-in (codes "reset") (name ∷ (condition_names condition ++ names_read value))) in
+      omega (arith, isr, b, longer)) in
+      let kbelow : kept < base + length two =
+      (let b = placed.below name (tail-in (codes "reset") name
+      (name ∷ (condition_names condition ++ names_read value))
+      (head-in name (condition_names condition ++ names_read value))) in
+      omega (arith, isk, b, longer)) in
       let tbelow : test < base + length two = (let b = t.below in let m = grows-length base one two a.grows in omega (arith, b, m)) in
       let last = grows-push base two after slot (next reset bits test taken kept) (rbelow, tbelow, a.below, kbelow) p in
       record {
@@ -133,6 +146,8 @@ module _ (by_layer : ByLayer) (base : ℕ) (scope : Scope) (slots : List ℕ) wh
             let gives = a.is values st (right-room nets (row values) (condition_names condition) (names_read value) inner) in
             pushed-value two after slot (next reset bits test taken kept) p values s
             ∙ (λ i. if values (isr i) == 1 then number i else (if values test == 0 then values (isk i) else gives i))
-            ∙ ap (λ x. if row values (codes "reset") == 1 then assigned_number width first else x) (chosen (values test) (takes_in nets (row values) condition) (assigned nets (row values) width value) (row values name) takes)
+            ∙ ap (λ x. if row values (codes "reset") == 1 then assigned_number width first else x)
+            (chosen (values test) (takes_in nets (row values) condition)
+            (assigned nets (row values) width value) (row values name) takes)
             ∙ ap (λ w. if row values (codes "reset") == 1 then assigned_number w first else (if takes_in nets (row values) condition then assigned nets (row values) w value else row values name)) net;
       }

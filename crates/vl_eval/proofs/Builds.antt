@@ -14,7 +14,8 @@ use Rattle.vl_ast.specs.declared.expressions.Sized.{Sized}
 use Rattle.vl_ast.specs.declared.expressions.Expr.{Expr}
 use Rattle.vl_ast.specs.declared.expressions.Expr.TheOpen.{Expr-F}
 use Rattle.vl_ast.specs.declared.expressions.Expr.TheViews.{roll-Expr}
-use Rattle.vl_ast.specs.declared.expressions.Expr.TheVariants.{Name, Bit, Part, Literal, AsSigned, AsUnsigned, Unary, Binary, Shift, Choose, rolls-Name, rolls-Bit, rolls-Part, rolls-Literal, rolls-AsSigned, rolls-AsUnsigned, rolls-Unary, rolls-Binary, rolls-Shift, rolls-Choose}
+use Rattle.vl_ast.specs.declared.expressions.Expr.TheVariants.{Name, Bit, Part, Literal, AsSigned, AsUnsigned, Unary, Binary, Shift, Choose, rolls-Name, rolls-Bit, rolls-Part, rolls-Literal}
+use Rattle.vl_ast.specs.declared.expressions.Expr.TheVariants.{rolls-AsSigned, rolls-AsUnsigned, rolls-Unary, rolls-Binary, rolls-Shift, rolls-Choose}
 use Rattle.vl_ast.specs.Context.{Net, Place, InWhole, Together, Alone, own_length, is_signed, unary_place, binary_place, length_at}
 use Rattle.vl_ast.specs.Conditions.{is_sound}
 use Rattle.vl_ast.specs.Nets.{names_read}
@@ -33,7 +34,8 @@ use Rattle.vl_eval.specs.inner.Contexts.{context_at, context_of, unary_context, 
 use Rattle.vl_eval.specs.inner.PlaceBits.{Shows, Grows, Pushed, IsExtended}
 use Rattle.vl_eval.specs.inner.Site.{Built, slot_in, ArePlaced}
 use Rattle.vl_eval.proofs.Words.{shift-gives, shift-reads}
-use Rattle.vl_eval.proofs.Forms.{and-turned, shows-unary-whole, shows-unary-alone, shows-whole, shows-together, shows-alone, shows-choice, shows-as-unsigned, shows-cast, shows-as-signed, shows-name, shows-signed-name, shows-bit, shows-part, shows-literal, shows-shift, Value, still-shows, settled-before}
+use Rattle.vl_eval.proofs.Forms.{and-turned, shows-unary-whole, shows-unary-alone, shows-whole, shows-together, shows-alone, shows-choice, shows-as-unsigned, shows-cast, shows-as-signed, shows-name}
+use Rattle.vl_eval.proofs.Forms.{shows-signed-name, shows-bit, shows-part, shows-literal, shows-shift, Value, still-shows, settled-before}
 use Rattle.vl_eval.proofs.Operands.{names-choose, sound-unary, length-unary, sound-binary, length-binary, sound-as-signed, length-as-signed, sound-shift, length-shift, steps-of}
 
 -- what is done, then more behind it, and what both come to, unless something was wanting
@@ -124,8 +126,11 @@ module _ (by_layer : ByLayer) (base : ℕ) (scope : Scope) (slots : List ℕ) wh
       → ArePlaced base scope slots ops (names_read test) × ArePlaced base scope slots ops (names_read chosen) × ArePlaced base scope slots ops (names_read other)
   placed-choose ops test chosen other p =
       let all = subst (λ names. ArePlaced base scope slots ops names) (names-choose nets test chosen other) p in
-      let rest = placed-right ops (names_read test) (names_read chosen ++ names_read other) all in
-      (placed-left ops (names_read test) (names_read chosen ++ names_read other) all, placed-left ops (names_read chosen) (names_read other) rest, placed-right ops (names_read chosen) (names_read other) rest)
+      let rest = placed-right ops (names_read test) (names_read chosen ++ names_read other) all in (
+        placed-left ops (names_read test) (names_read chosen ++ names_read other) all,
+        placed-left ops (names_read chosen) (names_read other) rest,
+        placed-right ops (names_read chosen) (names_read other) rest,
+      )
 
   pub shows-later : (before after : List Op) (slot width : ℕ) (signed : Bool) (e : Expr) → Grows base before after → Now before slot width signed e → Now after slot width signed e
   shows-later before after slot width signed e g h =
@@ -140,21 +145,27 @@ module _ (by_layer : ByLayer) (base : ℕ) (scope : Scope) (slots : List ℕ) wh
         (subst (λ s. Now after s width signed x) (sym p.place) (subst (λ ops. Now ops (base + length mid) width signed x) (sym p.grown) h));
   }
 
-  pub value : (ops : List Op) (slot width : ℕ) (signed : Bool) (e : Expr) → is_sound nets e ≡ true → own_length nets e ≤ width → Now ops slot width signed e → Value by_layer base nets at ops slot width signed e
+  pub value : (ops : List Op) (slot width : ℕ) (signed : Bool) (e : Expr) → is_sound nets e ≡ true
+      → own_length nets e ≤ width → Now ops slot width signed e
+      → Value by_layer base nets at ops slot width signed e
   value ops slot width signed e ok le h = record { ok = steps-of nets e ok; longer = le; here = h }
 
   -- a place that was there shows the whole
   pub stays : (before mid : List Op) (slot width : ℕ) (signed : Bool) (e x : Expr) → Grows base before mid → x ≡ e → Now mid slot width signed x → Here before mid slot width signed e
   stays before mid slot width signed e x g is h = record { grows = g; shows = subst (λ z. Now mid slot width signed z) is h }
 
-  pub alone-of : (ops : List Op) (slot : ℕ) (e : Expr) (inner : Shape) → inner.length ≡ own_length nets e → inner.signed ≡ is_signed nets e → Now ops slot inner.length inner.signed e → Now ops slot (own_length nets e) (is_signed nets e) e
+  pub alone-of : (ops : List Op) (slot : ℕ) (e : Expr) (inner : Shape) → inner.length ≡ own_length nets e
+      → inner.signed ≡ is_signed nets e → Now ops slot inner.length inner.signed e
+      → Now ops slot (own_length nets e) (is_signed nets e) e
   alone-of ops slot e inner l g h = subst (λ n. Now ops slot n (is_signed nets e) e) l (subst (λ t. Now ops slot inner.length t e) g h)
 
   pub settled-later : (before after : List Op) → Grows base before after → (values : ℕ → ℕ) → IsSettled base after values → IsSettled base before values
   settled-later before after g values s = settled-before base before g.more values (subst (λ ops. IsSettled base ops values) g.grown s)
 
   -- an operator before its operand
-  pub built-unary : (of : UnOp) (part : Expr) (before mid after : List Op) (a slot width mask : ℕ) (signed : Bool) (inner : Shape) → is_sound nets (Unary of part) ≡ true → own_length nets (Unary of part) ≤ width → width ≤ 128 → mask ≡ 2 ^ width - 1
+  pub built-unary : (of : UnOp) (part : Expr) (before mid after : List Op) (a slot width mask : ℕ) (signed : Bool)
+      (inner : Shape) → is_sound nets (Unary of part) ≡ true → own_length nets (Unary of part) ≤ width → width ≤ 128
+      → mask ≡ 2 ^ width - 1
       → inner ≡ unary_context nets of part width signed
       → Here before mid a inner.length inner.signed part → Pushed base mid after slot (unary_op of a mask) → Here before after slot width signed (Unary of part)
   built-unary of part before mid after a slot width mask signed inner ok le most full context b p = by (unary_place of) refl where
@@ -185,9 +196,13 @@ module _ (by_layer : ByLayer) (base : ℕ) (scope : Scope) (slots : List ℕ) wh
     by Together e = absurd (never-together of e)
 
   -- one between its operands
-  pub built-binary : (of : BinOp) (left right : Expr) (before one two after : List Op) (a b slot width mask half : ℕ) (signed : Bool) (lc rc : Shape) → is_sound nets (Binary of left right) ≡ true → own_length nets (Binary of left right) ≤ width → width ≤ 128 → mask ≡ 2 ^ width - 1
+  pub built-binary : (of : BinOp) (left right : Expr) (before one two after : List Op)
+      (a b slot width mask half : ℕ) (signed : Bool) (lc rc : Shape) → is_sound nets (Binary of left right) ≡ true
+      → own_length nets (Binary of left right) ≤ width → width ≤ 128 → mask ≡ 2 ^ width - 1
       → lc ≡ left_context nets of left right width signed → rc ≡ right_context nets of left right width signed → half ≡ half_in lc
-      → Here before one a lc.length lc.signed left → Here one two b rc.length rc.signed right → Pushed base two after slot (binary_op of a b mask half) → Here before after slot width signed (Binary of left right)
+      → Here before one a lc.length lc.signed left → Here one two b rc.length rc.signed right
+      → Pushed base two after slot (binary_op of a b mask half)
+      → Here before after slot width signed (Binary of left right)
   built-binary of left right before one two after a b slot width mask half signed lc rc ok le most full lcontext rcontext halves l r p = by (binary_place of) refl where
     oks : (is_sound nets left ≡ true) × (is_sound nets right ≡ true)
     oks = sound-binary nets of left right ok
@@ -213,8 +228,12 @@ module _ (by_layer : ByLayer) (base : ℕ) (scope : Scope) (slots : List ℕ) wh
     joint : Shape
     joint = shape_of (max (own_length nets left) (own_length nets right)) (is_signed nets left && is_signed nets right)
 
-    finish : (h : ℕ) → half ≡ h → Now (two ++ binary_op of a b (2 ^ width - 1) h ∷ []) (base + length two) width signed (roll-Expr (Expr-F.Binary of left right)) → Here before after slot width signed (Binary of left right)
-    finish h e shown = ends before two after slot width signed (Binary of left right) (roll-Expr (Expr-F.Binary of left right)) (binary_op of a b (2 ^ width - 1) h) both (reads (2 ^ width - 1) h) (p' h e) (rolls-Binary of left right) shown
+    finish : (h : ℕ) → half ≡ h → Now (two ++ binary_op of a b (2 ^ width - 1) h ∷ [])
+        (base + length two) width signed (roll-Expr (Expr-F.Binary of left right))
+        → Here before after slot width signed (Binary of left right)
+    finish h e shown = ends before two after slot width signed (Binary of left right)
+        (roll-Expr (Expr-F.Binary of left right)) (binary_op of a b (2 ^ width - 1) h) both
+        (reads (2 ^ width - 1) h) (p' h e) (rolls-Binary of left right) shown
 
     by : (place : Place) → binary_place of ≡ place → Here before after slot width signed (Binary of left right)
     by InWhole e =
@@ -233,8 +252,12 @@ module _ (by_layer : ByLayer) (base : ℕ) (scope : Scope) (slots : List ℕ) wh
         (value two a joint.length joint.signed left oks.0 (omega arith) (subst (λ (s : Shape). Now two a s.length s.signed left) isl first))
         (value two b joint.length joint.signed right oks.1 (omega arith) (subst (λ (s : Shape). Now two b s.length s.signed right) isr r.shows)))
     by Alone e =
-        let isl : lc ≡ shape_of (own_length nets left) (is_signed nets left) = lcontext ∙ ap (λ q. context_of q width signed (own_length nets left) (own_length nets right) (is_signed nets left) (is_signed nets right)) e in
-        let isr : rc ≡ shape_of (own_length nets right) (is_signed nets right) = rcontext ∙ ap (λ q. context_of q width signed (own_length nets right) (own_length nets left) (is_signed nets right) (is_signed nets left)) e in
+        let isl : lc ≡ shape_of (own_length nets left) (is_signed nets left) =
+        lcontext ∙ ap (λ q. context_of q width signed (own_length nets left) (own_length nets right)
+        (is_signed nets left) (is_signed nets right)) e in
+        let isr : rc ≡ shape_of (own_length nets right) (is_signed nets right) =
+        rcontext ∙ ap (λ q. context_of q width signed (own_length nets right) (own_length nets left)
+        (is_signed nets right) (is_signed nets left)) e in
         finish half refl (shows-alone by_layer base nets at two a b width (2 ^ width - 1) half signed of left right e
         (value two a (own_length nets left) (is_signed nets left) left oks.0 (omega arith) (subst (λ (s : Shape). Now two a s.length s.signed left) isl first))
         (value two b (own_length nets right) (is_signed nets right) right oks.1 (omega arith) (subst (λ (s : Shape). Now two b s.length s.signed right) isr r.shows)))
@@ -245,7 +268,9 @@ module _ (by_layer : ByLayer) (base : ℕ) (scope : Scope) (slots : List ℕ) wh
       stays ops ops slot width signed (Name name) (roll-Expr (Expr-F.Name name)) (grows-none base ops) (rolls-Name name)
       (subst (λ k. Now ops k width signed (roll-Expr (Expr-F.Name name))) (sym is) (shows-name by_layer base nets at ops width signed name below (λ s. absurd (false≢true (sym plain ∙ s)))))
 
-  pub built-signed-name : (name : List ℕ) (before after : List Op) (part slot width from : ℕ) (signed : Bool) → part ≡ at name → from ≡ (nets name).width → at name < base + length before → from ≤ width → width ≤ 128 → signed ≡ true
+  pub built-signed-name : (name : List ℕ) (before after : List Op) (part slot width from : ℕ) (signed : Bool)
+      → part ≡ at name → from ≡ (nets name).width → at name < base + length before → from ≤ width → width ≤ 128
+      → signed ≡ true
       → IsExtended base before after slot part from width → Here before after slot width signed (Name name)
   built-signed-name name before after part slot width from signed is net below le most sign (inl (same, place, ops)) =
       subst (λ zs. Here before zs slot width signed (Name name)) (sym ops)
@@ -264,11 +289,16 @@ module _ (by_layer : ByLayer) (base : ℕ) (scope : Scope) (slots : List ℕ) wh
       ends before before after slot width signed (Bit name place) (roll-Expr (Expr-F.Bit name place)) (One (Select place 1) (at name)) (grows-none base before) (below, low)
       (subst (λ k. Pushed base before after slot (One (Select place 1) k)) is p) (rolls-Bit name place) (shows-bit by_layer base nets at before width signed name place)
 
-  pub built-part : (name : List ℕ) (high low : ℕ) (before after : List Op) (part slot width mask : ℕ) (signed : Bool) → part ≡ at name → at name < base + length before → low < 128 → mask ≡ 2 ^ (high + 1 - low) - 1
+  pub built-part : (name : List ℕ) (high low : ℕ) (before after : List Op) (part slot width mask : ℕ)
+      (signed : Bool) → part ≡ at name → at name < base + length before → low < 128
+      → mask ≡ 2 ^ (high + 1 - low) - 1
       → Pushed base before after slot (One (Select low mask) part) → Here before after slot width signed (Part name high low)
   built-part name high low before after part slot width mask signed is below small full p =
-      ends before before after slot width signed (Part name high low) (roll-Expr (Expr-F.Part name high low)) (One (Select low (2 ^ (high + 1 - low) - 1)) (at name)) (grows-none base before) (below, small)
-      (subst (λ k. Pushed base before after slot (One (Select low (2 ^ (high + 1 - low) - 1)) k)) is (subst (λ m. Pushed base before after slot (One (Select low m) part)) full p)) (rolls-Part name high low) (shows-part by_layer base nets at before width signed name high low)
+      ends before before after slot width signed (Part name high low) (roll-Expr (Expr-F.Part name high low))
+      (One (Select low (2 ^ (high + 1 - low) - 1)) (at name)) (grows-none base before) (below, small)
+      (subst (λ k. Pushed base before after slot (One (Select low (2 ^ (high + 1 - low) - 1)) k)) is
+      (subst (λ m. Pushed base before after slot (One (Select low m) part)) full p)) (rolls-Part name high low)
+      (shows-part by_layer base nets at before width signed name high low)
 
   pub built-literal : (number : Sized) (before after : List Op) (bits slot width : ℕ) (signed : Bool) → bits ≡ extended (record { width = number.width; signed = signed; bits = number.bits }) width
       → Pushed base before after slot (Constant bits) → Here before after slot width signed (Literal number)
@@ -283,13 +313,15 @@ module _ (by_layer : ByLayer) (base : ℕ) (scope : Scope) (slots : List ℕ) wh
       stays before after slot width signed (AsUnsigned part) (roll-Expr (Expr-F.AsUnsigned part)) b.grows (rolls-AsUnsigned part)
       (shows-as-unsigned by_layer base nets at after slot width signed part (alone-of after slot part inner l g b.shows))
 
-  pub built-as-signed-plain : (part : Expr) (before after : List Op) (slot width : ℕ) (signed : Bool) (inner : Shape) → inner.length ≡ own_length nets part → inner.signed ≡ is_signed nets part → signed ≡ false
+  pub built-as-signed-plain : (part : Expr) (before after : List Op) (slot width : ℕ) (signed : Bool)
+      (inner : Shape) → inner.length ≡ own_length nets part → inner.signed ≡ is_signed nets part → signed ≡ false
       → Here before after slot inner.length inner.signed part → Here before after slot width signed (AsSigned part)
   built-as-signed-plain part before after slot width signed inner l g plain b =
       stays before after slot width signed (AsSigned part) (roll-Expr (Expr-F.AsSigned part)) b.grows (rolls-AsSigned part)
       (shows-cast by_layer base nets at after slot width signed part (λ s. absurd (false≢true (sym plain ∙ s))) (alone-of after slot part inner l g b.shows))
 
-  pub built-as-signed : (part : Expr) (before mid after : List Op) (a slot width : ℕ) (signed : Bool) (inner : Shape) → is_sound nets (AsSigned part) ≡ true → own_length nets (AsSigned part) ≤ width → width ≤ 128
+  pub built-as-signed : (part : Expr) (before mid after : List Op) (a slot width : ℕ) (signed : Bool)
+      (inner : Shape) → is_sound nets (AsSigned part) ≡ true → own_length nets (AsSigned part) ≤ width → width ≤ 128
       → inner.length ≡ own_length nets part → inner.signed ≡ is_signed nets part → signed ≡ true
       → Here before mid a inner.length inner.signed part → IsExtended base mid after slot a inner.length width → Here before after slot width signed (AsSigned part)
   built-as-signed part before mid after a slot width signed inner ok le most l g sign b (inl (same, place, ops)) =
@@ -307,7 +339,9 @@ module _ (by_layer : ByLayer) (base : ℕ) (scope : Scope) (slots : List ℕ) wh
       (ends before mid after slot width true (AsSigned part) (roll-Expr (Expr-F.AsSigned part)) op b.grows (h.below, tt) p' (rolls-AsSigned part)
       (shows-as-signed by_layer base nets at mid a width part le' most (value mid a own (is_signed nets part) part (sound-as-signed nets part ok) (omega arith) h)))
 
-  pub built-shift : (of : ShiftOp) (part : Expr) (amount : Sized) (before mid after : List Op) (a slot width : ℕ) (signed : Bool) → is_sound nets (Shift of part amount) ≡ true → own_length nets (Shift of part amount) ≤ width → width ≤ 128
+  pub built-shift : (of : ShiftOp) (part : Expr) (amount : Sized) (before mid after : List Op) (a slot width : ℕ)
+      (signed : Bool) → is_sound nets (Shift of part amount) ≡ true → own_length nets (Shift of part amount) ≤ width
+      → width ≤ 128
       → Here before mid a width signed part → Pushed base mid after slot (shift_op of a amount.bits width signed) → Here before after slot width signed (Shift of part amount)
   built-shift of part amount before mid after a slot width signed ok le most b p =
       let k = length-shift nets of part amount in
@@ -317,10 +351,15 @@ module _ (by_layer : ByLayer) (base : ℕ) (scope : Scope) (slots : List ℕ) wh
       (value mid a width signed part (sound-shift nets of part amount ok).0 (omega (arith, k, le)) b.shows)
       (λ values low. shift-gives of a amount.bits width signed values most low))
 
-  pub built-choice : (test chosen other : Expr) (before one two three after : List Op) (t c o slot width : ℕ) (signed : Bool) (inner : Shape) → inner.length ≡ own_length nets test → inner.signed ≡ is_signed nets test
-      → Here before one t inner.length inner.signed test → Here one two c width signed chosen → Here two three o width signed other → Pushed base three after slot (ChooseOp t c o) → Here before after slot width signed (Choose test chosen other)
+  pub built-choice : (test chosen other : Expr) (before one two three after : List Op) (t c o slot width : ℕ)
+      (signed : Bool) (inner : Shape) → inner.length ≡ own_length nets test → inner.signed ≡ is_signed nets test
+      → Here before one t inner.length inner.signed test → Here one two c width signed chosen
+      → Here two three o width signed other → Pushed base three after slot (ChooseOp t c o)
+      → Here before after slot width signed (Choose test chosen other)
   built-choice test chosen other before one two three after t c o slot width signed inner l g bt bc bo p =
-      let ht = shows-later two three t (own_length nets test) (is_signed nets test) test bo.grows (shows-later one two t (own_length nets test) (is_signed nets test) test bc.grows (alone-of one t test inner l g bt.shows)) in
+      let ht = shows-later two three t (own_length nets test) (is_signed nets test) test bo.grows
+      (shows-later one two t (own_length nets test) (is_signed nets test) test bc.grows
+      (alone-of one t test inner l g bt.shows)) in
       let hc = shows-later two three c width signed chosen bo.grows bc.shows in
       let ho = bo.shows in
       ends before three after slot width signed (Choose test chosen other) (roll-Expr (Expr-F.Choose test chosen other)) (ChooseOp t c o)

@@ -48,7 +48,9 @@ module _ (by_layer : ByLayer) (m : Module) (scope : Scope) (s : IsScopeOf m scop
   number-of name (d, listed, same) = subst (λ n. (k : ℕ) × (number_in scope n ≡ Some k)) same (s.knows d.name (map-in mentioned (mentions m) (Declares d) (listed-mention m driven once d listed)))
 
   -- has bits that fit
-  pub known-fits : (name : List ℕ) → Known name → (values : ℕ → ℕ) → IsSettled count wired values → FixedFit m scope (row_in scope slots values) → row_in scope slots values name < 2 ^ (nets_in scope name).width
+  pub known-fits : (name : List ℕ) → Known name → (values : ℕ → ℕ) → IsSettled count wired values
+      → FixedFit m scope (row_in scope slots values)
+      → row_in scope slots values name < 2 ^ (nets_in scope name).width
   known-fits name known values st f =
       let k = number-of name known in
       ⊎_elim
@@ -76,7 +78,9 @@ module _ (by_layer : ByLayer) (m : Module) (scope : Scope) (s : IsScopeOf m scop
 
   module _ (reset : Known (codes "reset")) where
     -- the names of a register's item
-    pub next-known : (name : List ℕ) (first : Sized) (condition : Option Expr) (value : Expr) → Contains m.items (Always name first condition value) → (n : List ℕ) → Contains (next_names name condition value) n → Known n
+    pub next-known : (name : List ℕ) (first : Sized) (condition : Option Expr) (value : Expr)
+        → Contains m.items (Always name first condition value) → (n : List ℕ)
+        → Contains (next_names name condition value) n → Known n
     next-known name first condition value h n c = ⊎_elim (λ e. subst Known e reset)
         (λ rest. ⊎_elim
         (λ e. subst Known e (listed (driven-declared m driven once true name (always-drives m driven once name first condition value h))))
@@ -87,8 +91,10 @@ module _ (by_layer : ByLayer) (m : Module) (scope : Scope) (s : IsScopeOf m scop
         listed : {x : List ℕ} → (d : Declared) × Contains (mentions m) (Declares d) × (d.name ≡ x) → Known x
         listed (d, h', same) = (d, mention-listed m driven once d h', same)
 
-    captured : (before after : List Op) (from to : ℕ) (name : List ℕ) (first : Sized) (condition : Option Expr) (value : Expr) → Contains m.items (Always name first condition value) → Grows count wired before
-        → to ≡ slot_in scope slots name → Captures count scope slots before after from name first condition value → IsCaptured m scope slots after (record { from = from; to = to }) name first condition value
+    captured : (before after : List Op) (from to : ℕ) (name : List ℕ) (first : Sized) (condition : Option Expr)
+        (value : Expr) → Contains m.items (Always name first condition value) → Grows count wired before
+        → to ≡ slot_in scope slots name → Captures count scope slots before after from name first condition value
+        → IsCaptured m scope slots after (record { from = from; to = to }) name first condition value
     captured before after from to name first condition value h g is c = record {
       to = is;
       above = c.above;
@@ -98,7 +104,10 @@ module _ (by_layer : ByLayer) (m : Module) (scope : Scope) (s : IsScopeOf m scop
           c.is values st (record { at = λ n i. known-fits n (next-known name first condition value h n i) values old f });
     }
 
-    still-captured : (before after : List Op) (c : Capture) (name : List ℕ) (first : Sized) (condition : Option Expr) (value : Expr) → Grows count before after → IsCaptured m scope slots before c name first condition value → IsCaptured m scope slots after c name first condition value
+    still-captured : (before after : List Op) (c : Capture) (name : List ℕ) (first : Sized)
+        (condition : Option Expr) (value : Expr) → Grows count before after
+        → IsCaptured m scope slots before c name first condition value
+        → IsCaptured m scope slots after c name first condition value
     still-captured before after c name first condition value g k = record {
       to = k.to;
       above = k.above;
@@ -113,7 +122,9 @@ module _ (by_layer : ByLayer) (m : Module) (scope : Scope) (s : IsScopeOf m scop
       only = λ c k. absurd (none-in c k);
     }
 
-    pub captured-same : (passed : List ModItem) (item : ModItem) (ops : List Op) (captures : List Capture) → ((name : List ℕ) (first : Sized) (condition : Option Expr) (value : Expr) → item ≡ Always name first condition value → ⊥)
+    pub captured-same : (passed : List ModItem) (item : ModItem) (ops : List Op) (captures : List Capture)
+        → ((name : List ℕ) (first : Sized) (condition : Option Expr) (value : Expr)
+        → item ≡ Always name first condition value → ⊥)
         → AreCaptured m scope slots passed wired ops captures → AreCaptured m scope slots (passed ++ item ∷ []) wired ops captures
     captured-same passed item ops captures other a = record {
       grows = a.grows;
@@ -123,7 +134,9 @@ module _ (by_layer : ByLayer) (m : Module) (scope : Scope) (s : IsScopeOf m scop
       only = λ c k. let r = a.only c k in (r.0, r.1, r.2, r.3, Contains-append_left passed (item ∷ []) (Always r.0 r.1 r.2 r.3) r.4, r.5);
     }
 
-    pub captured-more : (passed : List ModItem) (ops ops' : List Op) (captures : List Capture) (from to : ℕ) (name : List ℕ) (first : Sized) (condition : Option Expr) (value : Expr) → Contains m.items (Always name first condition value)
+    pub captured-more : (passed : List ModItem) (ops ops' : List Op) (captures : List Capture) (from to : ℕ)
+        (name : List ℕ) (first : Sized) (condition : Option Expr) (value : Expr)
+        → Contains m.items (Always name first condition value)
         → to ≡ slot_in scope slots name → Captures count scope slots ops ops' from name first condition value
         → AreCaptured m scope slots passed wired ops captures
         → AreCaptured m scope slots (passed ++ Always name first condition value ∷ []) wired ops' (captures ++ record { from = from; to = to } ∷ [])
@@ -139,14 +152,27 @@ module _ (by_layer : ByLayer) (m : Module) (scope : Scope) (s : IsScopeOf m scop
               (λ no'. absurd (none-in _ no')) (cons-cases (Always name first condition value) (Always n f k v) [] new))
               (Contains-append_cases passed (Always name first condition value ∷ []) (Always n f k v) i);
           only = λ d i. ⊎_elim
-              (λ old. let r = a.only d old in (r.0, r.1, r.2, r.3, Contains-append_left passed (Always name first condition value ∷ []) (Always r.0 r.1 r.2 r.3) r.4, still-captured ops ops' d r.0 r.1 r.2 r.3 c.grows r.5))
+              (λ old. let r = a.only d old in (
+                r.0,
+                r.1,
+                r.2,
+                r.3,
+                Contains-append_left passed (Always name first condition value ∷ []) (Always r.0 r.1 r.2 r.3) r.4,
+                still-captured ops ops' d r.0 r.1 r.2 r.3 c.grows r.5,
+              ))
               (λ new. ⊎_elim
               (λ e. (name, first, condition, value, Contains-push passed (Always name first condition value), subst (λ x. IsCaptured m scope slots ops' x name first condition value) e new-one))
               (λ no'. absurd (none-in _ no')) (cons-cases here d [] new))
               (Contains-append_cases captures (here ∷ []) d i);
         }
       where
-        moved : (d : Capture) (n : List ℕ) (f : Sized) (k : Option Expr) (v : Expr) → Always name first condition value ≡ Always n f k v → IsCaptured m scope slots ops' d name first condition value → IsCaptured m scope slots ops' d n f k v
+        moved : (d : Capture) (n : List ℕ) (f : Sized) (k : Option Expr) (v : Expr)
+            → Always name first condition value ≡ Always n f k v
+            → IsCaptured m scope slots ops' d name first condition value
+            → IsCaptured m scope slots ops' d n f k v
         moved d n f k v e x =
             let en : name ≡ n = cc e in let ef : first ≡ f = cc e in let ek : condition ≡ k = cc e in let ev : value ≡ v = cc e in
-            subst (λ z. IsCaptured m scope slots ops' d n f k z) ev (subst (λ z. IsCaptured m scope slots ops' d n f z value) ek (subst (λ z. IsCaptured m scope slots ops' d n z condition value) ef (subst (λ z. IsCaptured m scope slots ops' d z first condition value) en x)))
+            subst (λ z. IsCaptured m scope slots ops' d n f k z) ev
+            (subst (λ z. IsCaptured m scope slots ops' d n f z value) ek
+            (subst (λ z. IsCaptured m scope slots ops' d n z condition value) ef
+            (subst (λ z. IsCaptured m scope slots ops' d z first condition value) en x)))

@@ -1,5 +1,6 @@
 -- The bits that an edge is given, by the places of its ports.
-use Rattle.std.proofs.Common.{◌≡◌, ◌<◌, ◌≤◌, ◌+◌, ◌^◌, inl, inr, ◌⊎◌, ℕ, zero, suc, Bool, true, false, List, [], ◌∷◌, ◌++◌, length, filter, slice_get, slice_index, Contains, bytes_eq, Some, refl, sym, ap, subst, ◌∙◌, arith}
+use Rattle.std.proofs.Common.{◌≡◌, ◌<◌, ◌≤◌, ◌+◌, ◌^◌, inl, inr, ◌⊎◌, ℕ, zero, suc, Bool, true, false, List, [], ◌∷◌, ◌++◌, length, filter, slice_get, slice_index, Contains, bytes_eq, Some, refl, sym}
+use Rattle.std.proofs.Common.{ap, subst, ◌∙◌, arith}
 use Rattle.std.proofs.lemmas.Bool.{cond-true, cond-false, cases_lt}
 use Rattle.std.proofs.lemmas.List.{get_or_append_left, get_or_at, length-append}
 use Rattle.std.proofs.lemmas.Option.{slice_get_within, slice_get-get_or}
@@ -29,14 +30,18 @@ given-at (first ∷ ports) apart (here ∷ bits) (suc k) port e low =
 pub given-none : (ports : List Port) (bits : List ℕ) (name : List ℕ) → ((k : ℕ) (port : Port) → slice_get ports k ≡ Some port → bytes_eq port.name name ≡ false) → given ports bits name ≡ 0
 given-none [] bits name none = refl
 given-none (first ∷ ports) [] name none = refl
-given-none (first ∷ ports) (here ∷ bits) name none = cond-false (bytes_eq first.name name) here (given ports bits name) (none zero first refl) ∙ given-none ports bits name (λ k port e. none (suc k) port e)
+given-none (first ∷ ports) (here ∷ bits) name none =
+    cond-false (bytes_eq first.name name) here (given ports bits name) (none zero first refl)
+    ∙ given-none ports bits name (λ k port e. none (suc k) port e)
 
 -- a port that passes a test is among those that do
 pub filter-has : (test : Port → Bool) (ports : List Port) (x : Port) → Contains ports x → test x ≡ true → Contains (filter test ports) x
 filter-has test [] x h t = absurd (none-in x h)
 filter-has test (first ∷ ports) x h t = by (filter-has test ports x) (test first) refl (cons-cases first x ports h) where
   by : (Contains ports x → test x ≡ true → Contains (filter test ports) x) → (passes : Bool) → test first ≡ passes → (first ≡ x) ⊎ Contains ports x → Contains (filter test (first ∷ ports)) x
-  by rest true e (inl same) = subst (λ xs. Contains xs x) (sym (cond-true (test first) (first ∷ filter test ports) (filter test ports) e)) (subst (λ z. Contains (z ∷ filter test ports) x) (sym same) (head-in x (filter test ports)))
+  by rest true e (inl same) = subst (λ xs. Contains xs x)
+      (sym (cond-true (test first) (first ∷ filter test ports) (filter test ports) e))
+      (subst (λ z. Contains (z ∷ filter test ports) x) (sym same) (head-in x (filter test ports)))
   by rest true e (inr later) = subst (λ xs. Contains xs x) (sym (cond-true (test first) (first ∷ filter test ports) (filter test ports) e)) (tail-in first x (filter test ports) (rest later t))
   by rest false e (inl same) = absurd (cc (sym e ∙ ap test same ∙ t))
   by rest false e (inr later) = subst (λ xs. Contains xs x) (sym (cond-false (test first) (first ∷ filter test ports) (filter test ports) e)) (rest later t)
@@ -50,7 +55,9 @@ pub record FitSoFar (ports : List Port) (bits : List ℕ) (place : ℕ) : Type 0
 pub fit-none : (bits : List ℕ) → FitSoFar [] bits 0
 fit-none bits = record { count = refl; within = omega arith; narrow = λ k port e. absurd (cc e) }
 
-pub fit-more : (ports : List Port) (port : Port) (bits : List ℕ) (place : ℕ) → place < length bits → slice_index bits place < 2 ^ port.width → FitSoFar ports bits place → FitSoFar (ports ++ port ∷ []) bits (place + 1)
+pub fit-more : (ports : List Port) (port : Port) (bits : List ℕ) (place : ℕ) → place < length bits
+    → slice_index bits place < 2 ^ port.width → FitSoFar ports bits place
+    → FitSoFar (ports ++ port ∷ []) bits (place + 1)
 fit-more ports port bits place within low f = record {
   count = (let l = length-append ports (port ∷ []) in let c = f.count in omega (arith, l, c));
   within = omega (arith, within);

@@ -1,5 +1,6 @@
 -- What is captured, then put in and then swept is the row after an edge.
-use Rattle.std.proofs.Common.{◌≡◌, ◌<◌, ◌≤◌, ◌^◌, ◌==◌, inl, inr, ◌⊎◌, ⊎_elim, ℕ, Bool, true, false, not, ◌&&◌, if◌then◌else◌, List, length, take, slice_get, slice_index, codes, bytes_eq, Contains, Option, None, Some, refl, sym, ap, subst, ◌∙◌, arith}
+use Rattle.std.proofs.Common.{◌≡◌, ◌<◌, ◌≤◌, ◌^◌, ◌==◌, inl, inr, ◌⊎◌, ⊎_elim, ℕ, Bool, true, false, not, ◌&&◌, if◌then◌else◌, List, length, take, slice_get, slice_index, codes, bytes_eq, Contains}
+use Rattle.std.proofs.Common.{Option, None, Some, refl, sym, ap, subst, ◌∙◌, arith}
 use Rattle.std.proofs.lemmas.Bool.{cases_Bool, false≢true}
 use Rattle.std.specs.List.{position}
 use Rattle.std.proofs.lemmas.Nat.{mod_below, pow_pos}
@@ -35,7 +36,8 @@ use Rattle.vl_check.specs.Names.{names_of}
 use Rattle.vl_eval.specs.inner.Site.{slot_at, slot_in}
 use Rattle.vl_eval.proofs.ScopeNumbers.{number-is}
 use Rattle.vl_eval.proofs.EdgeBits.{filter-has, given-at, given-none}
-use Rattle.vl_eval.proofs.StablePlaces.{IsInput, IsListed, IsSettledIn, IsStored, Origin, driven-in, fits-known, fixed-slot, input-fixed, input-known, nets-same, no-register, one-slot, origin, place-at, register-fixed, register-known, row-is, settled-all, width-is}
+use Rattle.vl_eval.proofs.StablePlaces.{IsInput, IsListed, IsSettledIn, IsStored, Origin, driven-in, fits-known, fixed-slot, input-fixed, input-known, nets-same, no-register, one-slot, origin}
+use Rattle.vl_eval.proofs.StablePlaces.{place-at, register-fixed, register-known, row-is, settled-all, width-is}
 
 either-fits : (t u : Bool) (a b c n : ℕ) → a < n → b < n → c < n → (if t then a else (if u then b else c)) < n
 either-fits true u a b c n ka kb kc = ka
@@ -67,12 +69,19 @@ module _ (by_layer : ByLayer) (m : Module) (b : BreaksNone m) (scope : Scope) (s
     register-taken : IsSettledIn plan v0 → FixedFit m scope (row v0) → (name : List ℕ) (first : Sized) (condition : Option Expr) (value : Expr) → Contains m.items (Always name first condition value)
         → row v1 name ≡ next_in nets (row v0) name first condition value
     register-taken st f name first condition value h = by (taken.each (slot_in scope slots name)) where
-      by : (IsFree plan.arranged.captures.items (slot_in scope slots name) × (row v1 name ≡ row v0 name)) ⊎ ((c : Capture) × Contains plan.arranged.captures.items c × (c.to ≡ slot_in scope slots name) × (row v1 name ≡ slice_index v0 c.from))
+      by : (IsFree plan.arranged.captures.items (slot_in scope slots name) × (row v1 name ≡ row v0 name))
+          ⊎ ((c : Capture) × Contains plan.arranged.captures.items c × (c.to ≡ slot_in scope slots name)
+          × (row v1 name ≡ slice_index v0 c.from))
           → row v1 name ≡ next_in nets (row v0) name first condition value
       by (inl (free, same)) = let r = p.captured.each name first condition value h in absurd (free r.0 r.1 r.2.to)
       by (inr (c, inside, to, same)) =
           let r = p.captured.only c inside in
-          let named : r.0 ≡ name = one-slot by_layer m b scope s plan p r.0 name (register-known by_layer m b scope s plan p r.0 r.1 r.2 r.3 r.4) (register-known by_layer m b scope s plan p name first condition value h) (register-fixed by_layer m b scope s plan p r.0 r.1 r.2 r.3 r.4) (register-fixed by_layer m b scope s plan p name first condition value h) (sym r.5.to ∙ to) in
+          let named : r.0 ≡ name = one-slot by_layer m b scope s plan p r.0 name
+          (register-known by_layer m b scope s plan p r.0 r.1 r.2 r.3 r.4)
+          (register-known by_layer m b scope s plan p name first condition value h)
+          (register-fixed by_layer m b scope s plan p r.0 r.1 r.2 r.3 r.4)
+          (register-fixed by_layer m b scope s plan p name first condition value h)
+          (sym r.5.to ∙ to) in
           let one = one-always m b.acyclic.driven b.acyclic.once name r.1 first r.2 condition r.3 value (subst (λ n. Contains m.items (Always n r.1 r.2 r.3)) named r.4) h in
           same ∙ r.5.is (λ k. slice_index v0 k) (settled-all by_layer m b scope s plan p v0 st) f ∙ (λ i. next_in nets (row v0) (named i) (one i).first (one i).condition (one i).value)
 
@@ -81,7 +90,11 @@ module _ (by_layer : ByLayer) (m : Module) (b : BreaksNone m) (scope : Scope) (s
         let a = place-at by_layer m b scope s plan p k low in
         let d = driven-in by_layer m b scope s plan p k a.0 a.1 in
         absurd (no-register by_layer m b scope s plan p a.0 d.0 d.1 name first condition value h
-        (one-slot by_layer m b scope s plan p name a.0.name (register-known by_layer m b scope s plan p name first condition value h) (input-known by_layer m b scope s plan p a.0 d.0) (register-fixed by_layer m b scope s plan p name first condition value h) (input-fixed by_layer m b scope s plan p a.0 d.0 d.1) (sym same ∙ a.2))))
+        (one-slot by_layer m b scope s plan p name a.0.name
+        (register-known by_layer m b scope s plan p name first condition value h)
+        (input-known by_layer m b scope s plan p a.0 d.0)
+        (register-fixed by_layer m b scope s plan p name first condition value h)
+        (input-fixed by_layer m b scope s plan p a.0 d.0 d.1) (sym same ∙ a.2))))
 
     input-taken : (port : Port) → Contains m.ports port → port.input ≡ true → row v1 port.name ≡ row v0 port.name
     input-taken port h i = by (taken.each (slot_in scope slots port.name)) where
@@ -91,14 +104,22 @@ module _ (by_layer : ByLayer) (m : Module) (b : BreaksNone m) (scope : Scope) (s
       by (inl (free, same)) = same
       by (inr (c, inside, to, same)) =
           let r = p.captured.only c inside in
-          absurd (no-register by_layer m b scope s plan p port h i r.0 r.1 r.2 r.3 r.4 (one-slot by_layer m b scope s plan p r.0 port.name (register-known by_layer m b scope s plan p r.0 r.1 r.2 r.3 r.4) (input-known by_layer m b scope s plan p port h) (register-fixed by_layer m b scope s plan p r.0 r.1 r.2 r.3 r.4) (input-fixed by_layer m b scope s plan p port h i) (sym r.5.to ∙ to)))
+          absurd (no-register by_layer m b scope s plan p port h i r.0 r.1 r.2 r.3 r.4
+          (one-slot by_layer m b scope s plan p r.0 port.name
+          (register-known by_layer m b scope s plan p r.0 r.1 r.2 r.3 r.4)
+          (input-known by_layer m b scope s plan p port h)
+          (register-fixed by_layer m b scope s plan p r.0 r.1 r.2 r.3 r.4)
+          (input-fixed by_layer m b scope s plan p port h i) (sym r.5.to ∙ to)))
 
     clk-put : (port : Port) → Contains m.ports port → port.input ≡ true → bytes_eq port.name (codes "clk") ≡ true → row v2 port.name ≡ row v0 port.name
     clk-put port h i clk =
         put.others (slot_in scope slots port.name) (λ k low same.
         let a = place-at by_layer m b scope s plan p k low in
         let d = driven-in by_layer m b scope s plan p k a.0 a.1 in
-        let named : port.name ≡ a.0.name = one-slot by_layer m b scope s plan p port.name a.0.name (input-known by_layer m b scope s plan p port h) (input-known by_layer m b scope s plan p a.0 d.0) (input-fixed by_layer m b scope s plan p port h i) (input-fixed by_layer m b scope s plan p a.0 d.0 d.1) (sym same ∙ a.2) in
+        let named : port.name ≡ a.0.name = one-slot by_layer m b scope s plan p port.name a.0.name
+        (input-known by_layer m b scope s plan p port h) (input-known by_layer m b scope s plan p a.0 d.0)
+        (input-fixed by_layer m b scope s plan p port h i)
+        (input-fixed by_layer m b scope s plan p a.0 d.0 d.1) (sym same ∙ a.2) in
         absurd (false≢true (sym d.2 ∙ subst (λ n. bytes_eq n (codes "clk") ≡ true) named clk)))
         ∙ input-taken port h i
 
@@ -154,7 +175,9 @@ module _ (by_layer : ByLayer) (m : Module) (b : BreaksNone m) (scope : Scope) (s
             let low : slot_in scope slots name < plan.base = (let number = a.2 in let below = a.3 in let base = p.base in omega (arith, number, below, base)) in
             sym (get_or-take plan.base v3 (slot_in scope slots name) 0 low) ∙ ap (λ xs. slice_index xs (slot_in scope slots name)) kept ∙ get_or-take plan.base v2 (slot_in scope slots name) 0 low
 
-        stepped : (name : List ℕ) (first : Sized) (condition : Option Expr) (value : Expr) → Contains m.items (Always name first condition value) → row v3 name ≡ next_in nets (row v0) name first condition value
+        stepped : (name : List ℕ) (first : Sized) (condition : Option Expr) (value : Expr)
+            → Contains m.items (Always name first condition value)
+            → row v3 name ≡ next_in nets (row v0) name first condition value
         stepped name first condition value h =
             fixed-kept name (register-known by_layer m b scope s plan p name first condition value h) (register-fixed by_layer m b scope s plan p name first condition value h)
             ∙ register-put name first condition value h ∙ register-taken st0 f0 name first condition value h
@@ -165,8 +188,11 @@ module _ (by_layer : ByLayer) (m : Module) (b : BreaksNone m) (scope : Scope) (s
         input-shown : (port : Port) → Contains m.ports port → port.input ≡ true → (row v3 port.name ≡ given (driven_ports m) bits port.name) × (row v3 port.name < 2 ^ port.width)
         input-shown port h i = ⊎_elim
             (λ clk.
-            let zero' = edge-still port h i clk in
-            (zero' ∙ sym (given-none (driven_ports m) bits port.name (λ k other e. not-clk other (driven-in by_layer m b scope s plan p k other e).2 clk)), subst (λ n. n < 2 ^ port.width) (sym zero') (pow_pos port.width)))
+            let zero' = edge-still port h i clk in (
+              zero' ∙ sym (given-none (driven_ports m) bits port.name
+                  (λ k other e. not-clk other (driven-in by_layer m b scope s plan p k other e).2 clk)),
+              subst (λ n. n < 2 ^ port.width) (sym zero') (pow_pos port.width),
+            ))
             (λ other.
             let d = driven-put port h i other in
             let same = fixed-kept port.name (input-known by_layer m b scope s plan p port h) (input-fixed by_layer m b scope s plan p port h i) in
@@ -180,12 +206,16 @@ module _ (by_layer : ByLayer) (m : Module) (b : BreaksNone m) (scope : Scope) (s
         edge-fits = record { at = λ d listed fixed. by d listed (origin by_layer m b scope s plan p d listed fixed) } where
           by : (d : Declared) → Contains (declarations m) d → Origin by_layer m b scope s plan p d → row v3 d.name < 2 ^ (nets d.name).width
           by d listed (IsInput port h i same) =
-              let w = width-is by_layer m b scope s plan p (port_declared port) (mention-listed m b.acyclic.driven b.acyclic.once (port_declared port) (in-port m b.acyclic.driven b.acyclic.once port h)) in
+              let w = width-is by_layer m b scope s plan p (port_declared port)
+              (mention-listed m b.acyclic.driven b.acyclic.once (port_declared port)
+              (in-port m b.acyclic.driven b.acyclic.once port h)) in
               subst (λ n. row v3 n < 2 ^ (nets n).width) same (subst (λ n. row v3 port.name < 2 ^ n) (sym w) (input-shown port h i).1)
           by d listed (IsStored first condition value h) =
               let w = (nets d.name).width in
               subst (λ n. n < 2 ^ w) (sym (stepped d.name first condition value h))
-              (either-fits (row v0 (codes "reset") == 1) (takes_in nets (row v0) condition) _ _ (row v0 d.name) (2 ^ w) (mod_below _ (2 ^ w) (pow_pos w)) (mod_below _ (2 ^ w) (pow_pos w)) (fits-known by_layer m b scope s plan p v0 st0 f0 d.name (d, listed, refl)))
+              (either-fits (row v0 (codes "reset") == 1) (takes_in nets (row v0) condition) _ _ (row v0 d.name)
+              (2 ^ w) (mod_below _ (2 ^ w) (pow_pos w)) (mod_below _ (2 ^ w) (pow_pos w))
+              (fits-known by_layer m b scope s plan p v0 st0 f0 d.name (d, listed, refl)))
 
         pub edge-is : IsEdge m (row v0) (given (driven_ports m) bits) (row v3)
         edge-is = record {
@@ -193,7 +223,9 @@ module _ (by_layer : ByLayer) (m : Module) (b : BreaksNone m) (scope : Scope) (s
           steps = λ name first condition value h.
               stepped name first condition value h
               ∙ ap (λ (f : List ℕ → Net). next_in f (row v0) name first condition value) (nets-same by_layer m b scope s plan p)
-              ∙ ap (λ t. if row v0 (codes "reset") == 1 then assigned_number (nets_of m name).width first else (if t then assigned (nets_of m) (row v0) (nets_of m name).width value else row v0 name)) (takes-same m (row v0) condition);
+              ∙ ap (λ t. if row v0 (codes "reset") == 1 then assigned_number (nets_of m name).width first else
+              (if t then assigned (nets_of m) (row v0) (nets_of m name).width value else row v0 name))
+              (takes-same m (row v0) condition);
         }
 
   -- a row of zeros, once it is swept, is a first row
@@ -202,7 +234,9 @@ module _ (by_layer : ByLayer) (m : Module) (b : BreaksNone m) (scope : Scope) (s
     fixed-zero name known fixed =
         let a = fixed-slot by_layer m b scope s plan p name known fixed in
         let low : slot_in scope slots name < plan.base = (let number = a.2 in let below = a.3 in let base = p.base in omega (arith, number, below, base)) in
-        sym (get_or-take plan.base v3 (slot_in scope slots name) 0 low) ∙ ap (λ xs. slice_index xs (slot_in scope slots name)) kept ∙ get_or-take plan.base v0 (slot_in scope slots name) 0 low ∙ zeros (slot_in scope slots name)
+        sym (get_or-take plan.base v3 (slot_in scope slots name) 0 low)
+        ∙ ap (λ xs. slice_index xs (slot_in scope slots name)) kept
+        ∙ get_or-take plan.base v0 (slot_in scope slots name) 0 low ∙ zeros (slot_in scope slots name)
 
     pub first-fits : FixedFit m scope (row v3)
     first-fits = record { at = λ d listed fixed. subst (λ n. n < 2 ^ (nets d.name).width) (sym (fixed-zero d.name (d, listed, refl) fixed)) (pow_pos (nets d.name).width) }
@@ -233,7 +267,9 @@ module _ (by_layer : ByLayer) (m : Module) (b : BreaksNone m) (scope : Scope) (s
 
   fit-from : (values : List ℕ) → FitsNamed values → FixedFit m scope (row values)
   fit-from values fits = record {
-    at = λ d listed fixed. subst (λ n. row values d.name < 2 ^ n) (sym (width-is by_layer m b scope s plan p d listed)) (subst (λ (r : List ℕ → ℕ). r d.name < 2 ^ d.net.width) (sym (named-row values)) (fits d listed));
+    at = λ d listed fixed. subst (λ n. row values d.name < 2 ^ n)
+        (sym (width-is by_layer m b scope s plan p d listed))
+        (subst (λ (r : List ℕ → ℕ). r d.name < 2 ^ d.net.width) (sym (named-row values)) (fits d listed));
   }
 
   to-named : (values : List ℕ) → ((d : Declared) → Contains (declarations m) d → row values d.name < 2 ^ d.net.width) → FitsNamed values
@@ -248,7 +284,8 @@ module _ (by_layer : ByLayer) (m : Module) (b : BreaksNone m) (scope : Scope) (s
     edge-row = edge-is v0 v1 v2 bits taken put fit v3 st0 (fit-from v0 fits0) still-row kept st3
 
     pub edge-named : IsEdge m (named v0) (given (driven_ports m) bits) (named v3)
-    edge-named = subst (λ (r : List ℕ → ℕ). IsEdge m (named v0) (given (driven_ports m) bits) r) (named-row v3) (subst (λ (r : List ℕ → ℕ). IsEdge m r (given (driven_ports m) bits) (row v3)) (named-row v0) edge-row)
+    edge-named = subst (λ (r : List ℕ → ℕ). IsEdge m (named v0) (given (driven_ports m) bits) r) (named-row v3)
+        (subst (λ (r : List ℕ → ℕ). IsEdge m r (given (driven_ports m) bits) (row v3)) (named-row v0) edge-row)
 
     pub edge-fits-named : FitsNamed v3
     edge-fits-named = to-named v3 edge-row.row_is.fits

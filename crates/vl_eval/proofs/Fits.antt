@@ -1,5 +1,6 @@
 -- The value of a sound expression fits every context that is at least as long as the expression.
-use Rattle.std.proofs.Common.{◌≡◌, ◌<◌, ◌≤◌, ◌+◌, ◌-◌, ◌*◌, ◌/◌, ◌^◌, ℕ, zero, suc, max, Bool, true, false, ◌&&◌, ◌==◌, if◌then◌else◌, nat_le, nat_lt, List, [], ◌∷◌, ◌++◌, map, replicate, flat_map, refl, sym, subst, ◌∙◌, arith}
+use Rattle.std.proofs.Common.{◌≡◌, ◌<◌, ◌≤◌, ◌+◌, ◌-◌, ◌*◌, ◌/◌, ◌^◌, ℕ, zero, suc, max, Bool, true, false, ◌&&◌, ◌==◌, if◌then◌else◌, nat_le, nat_lt, List, [], ◌∷◌, ◌++◌, map, replicate, flat_map}
+use Rattle.std.proofs.Common.{refl, sym, subst, ◌∙◌, arith}
 use Rattle.std.specs.Prelude.{fold}
 use Rattle.std.specs.List.{list_all}
 use Rattle.std.specs.Int.{bit_at}
@@ -108,7 +109,9 @@ module _ (by_layer : ByLayer) (nets : List ℕ → Net) (row : List ℕ → ℕ)
 
   binary-fits : (op : BinOp) (width : ℕ) (signed : Bool) (a b : Known) → narrow a.0 ≡ true → narrow b.0 ≡ true → NamesFit nets row (names_read a.0) → NamesFit nets row (names_read b.0)
       → length_at (binary_place op) (max (own_length nets a.0) (own_length nets b.0)) ≤ width
-      → binary_bits op width (operand_at nets (binary_place op) width signed (operand_of nets row a.0) (operand_of nets row b.0)) (operand_at nets (binary_place op) width signed (operand_of nets row b.0) (operand_of nets row a.0)) < 2 ^ width
+      → binary_bits op width (operand_at nets (binary_place op) width signed (operand_of nets row a.0)
+      (operand_of nets row b.0)) (operand_at nets (binary_place op) width signed (operand_of nets row b.0)
+      (operand_of nets row a.0)) < 2 ^ width
   binary-fits Add width signed a b ha hb ra rb le = mod_below _ (2 ^ width) (pow_pos width)
   binary-fits Subtract width signed a b ha hb ra rb le = mod_below _ (2 ^ width) (pow_pos width)
   binary-fits Multiply width signed a b ha hb ra rb le = mod_below _ (2 ^ width) (pow_pos width)
@@ -151,7 +154,9 @@ module _ (by_layer : ByLayer) (nets : List ℕ → Net) (row : List ℕ → ℕ)
   step (Expr-F.AsSigned part) h r width signed le =
       extended-fits (record { width = own_length nets part.0; signed = signed; bits = (alone nets (operand_of nets row part.0)).bits }) width (alone-fits part h r) le
   step (Expr-F.AsUnsigned part) h r width signed le = longer (own_length nets part.0) width _ (alone-fits part h r) le
-  step (Expr-F.Unary op part) h r width signed le = unary-fits op width (operand_at nets (unary_place op) width signed (operand_of nets row part.0) (operand_of nets row part.0)) (own_length nets part.0) le
+  step (Expr-F.Unary op part) h r width signed le =
+      unary-fits op width (operand_at nets (unary_place op) width signed (operand_of nets row part.0)
+      (operand_of nets row part.0)) (own_length nets part.0) le
   step (Expr-F.Binary op left right) h r width signed le =
       let hs = and_parts (narrow left.0) (narrow right.0) h in
       binary-fits op width signed left right hs.0 hs.1 (left-room nets row (names_read left.0) (names_read right.0) r) (right-room nets row (names_read left.0) (names_read right.0) r) le

@@ -1,5 +1,6 @@
 -- What the last operation shows of an expression, from what the operations of its operands show.
-use Rattle.std.proofs.Common.{◌≡◌, ◌<◌, ◌≤◌, ◌+◌, ◌-◌, ◌*◌, ◌%◌, ◌^◌, ◌==◌, ℕ, max, Bool, true, false, ◌&&◌, if◌then◌else◌, List, [], ◌∷◌, ◌++◌, length, map, flat_map, replicate, Contains, refl, sym, ap, subst, ◌∙◌, arith}
+use Rattle.std.proofs.Common.{◌≡◌, ◌<◌, ◌≤◌, ◌+◌, ◌-◌, ◌*◌, ◌%◌, ◌^◌, ◌==◌, ℕ, max, Bool, true, false, ◌&&◌, if◌then◌else◌, List, [], ◌∷◌, ◌++◌, length, map, flat_map, replicate, Contains, refl, sym}
+use Rattle.std.proofs.Common.{ap, subst, ◌∙◌, arith}
 use Rattle.std.specs.Prelude.{fold}
 use Rattle.std.proofs.lemmas.List.{get_or_append_left, get_or_at, length-append}
 use Rattle.std.proofs.lemmas.List.Sums.{fold-append}
@@ -106,7 +107,8 @@ module _ (by_layer : ByLayer) (base : ℕ) (nets : List ℕ → Net) (slot_of : 
     pub longer : own_length nets e ≤ width
     pub here : Shows base nets slot_of ops slot width signed e
 
-  value-below : (ops : List Op) (slot width : ℕ) (signed : Bool) (e : Expr) → Value ops slot width signed e → (values : ℕ → ℕ) → IsSettled base ops values → Fit values (names_read e) → values slot < 2 ^ width
+  value-below : (ops : List Op) (slot width : ℕ) (signed : Bool) (e : Expr) → Value ops slot width signed e
+      → (values : ℕ → ℕ) → IsSettled base ops values → Fit values (names_read e) → values slot < 2 ^ width
   value-below ops slot width signed e v values s room = fitting ops slot width signed e v.ok v.longer v.here values s room
 
   pub shows-unary : (ops : List Op) (op : Op) (a width : ℕ) (signed : Bool) (of : UnOp) (part : Expr) (inner : ℕ) (sign : Bool)
@@ -202,7 +204,9 @@ module _ (by_layer : ByLayer) (base : ℕ) (nets : List ℕ → Net) (slot_of : 
   -- a name in a context without sign, or one that isn't longer, is its own place
   pub shows-name : (ops : List Op) (width : ℕ) (signed : Bool) (name : List ℕ) → slot_of name < base + length ops → (signed ≡ true → (nets name).width ≡ width)
       → Here ops (slot_of name) width signed (roll-Expr (Expr-F.Name name))
-  shows-name ops width signed name within same = shows-place ops (slot_of name) width signed (Expr-F.Name name) within (λ values s room. sym (as-it-is (nets name).width width signed (values (slot_of name)) same))
+  shows-name ops width signed name within same =
+      shows-place ops (slot_of name) width signed (Expr-F.Name name) within
+      (λ values s room. sym (as-it-is (nets name).width width signed (values (slot_of name)) same))
 
   -- and in one with sign its bits are extended
   pub shows-signed-name : (ops : List Op) (width : ℕ) (name : List ℕ) → (nets name).width ≤ width → width ≤ 128
@@ -218,7 +222,9 @@ module _ (by_layer : ByLayer) (base : ℕ) (nets : List ℕ → Net) (slot_of : 
 
   pub shows-part : (ops : List Op) (width : ℕ) (signed : Bool) (name : List ℕ) (high low : ℕ)
       → Here (ops ++ One (Select low (2 ^ (high + 1 - low) - 1)) (slot_of name) ∷ []) (base + length ops) width signed (roll-Expr (Expr-F.Part name high low))
-  shows-part ops width signed name high low = shows-op ops (One (Select low (2 ^ (high + 1 - low) - 1)) (slot_of name)) width signed (Expr-F.Part name high low) (λ values s room. select-gives (values (slot_of name)) low (high + 1 - low))
+  shows-part ops width signed name high low =
+      shows-op ops (One (Select low (2 ^ (high + 1 - low) - 1)) (slot_of name)) width signed
+      (Expr-F.Part name high low) (λ values s room. select-gives (values (slot_of name)) low (high + 1 - low))
 
   -- a cast that needs no extension is its operand alone
   pub shows-cast : (ops : List Op) (a width : ℕ) (signed : Bool) (part : Expr) → (signed ≡ true → own_length nets part ≡ width) → Here ops a (own_length nets part) (is_signed nets part) part

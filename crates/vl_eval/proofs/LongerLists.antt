@@ -23,7 +23,11 @@ all-longer wide more (step ∷ steps) at = λ i. held-longer step wide more (at 
 
 -- the steps stay where the list grows
 pub steps-stay : (wide more : List Op) (steps : List Step) → AreWithin (length wide) steps → AreWithin (length (wide ++ more)) steps
-steps-stay wide more steps w = record { at = λ k d low. within-longer (slice_index_or steps k d) (length wide) (length (wide ++ more)) (let n = length-append wide more in omega (arith, n)) (w.at k d low) }
+steps-stay wide more steps w = record {
+  at =
+      λ k d low. within-longer (slice_index_or steps k d) (length wide) (length (wide ++ more))
+      (let n = length-append wide more in omega (arith, n)) (w.at k d low);
+}
 
 pub within-more : (count : ℕ) (steps : List Step) (step : Step) → AreWithin count steps → IsWithin count step → AreWithin count (steps ++ step ∷ [])
 within-more count steps step w s = record { at = λ k d low. ⊎_elim (old k d) (new k d (let n = length-append steps (step ∷ []) in omega (arith, low, n))) (cases_lt k (length steps)) } where

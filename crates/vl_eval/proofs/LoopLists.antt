@@ -1,5 +1,6 @@
 -- Lists that loops make, one more at the end.
-use Rattle.std.proofs.Common.{◌≡◌, ◌<◌, ◌≤◌, ◌+◌, ⊎_elim, ℕ, zero, suc, Bool, true, false, if◌then◌else◌, List, [], ◌∷◌, ◌++◌, length, map, filter, replicate, set, slice_index, slice_index_or, take, drop, refl, sym, ap, ◌∙◌, arith}
+use Rattle.std.proofs.Common.{◌≡◌, ◌<◌, ◌≤◌, ◌+◌, ⊎_elim, ℕ, zero, suc, Bool, true, false, if◌then◌else◌, List, [], ◌∷◌, ◌++◌, length, map, filter, replicate, set, slice_index, slice_index_or, take}
+use Rattle.std.proofs.Common.{drop, refl, sym, ap, ◌∙◌, arith}
 use Rattle.std.proofs.lemmas.Bool.{cases_lt}
 use Rattle.std.proofs.Math.ListN.{drop_of_length-le}
 use Rattle.std.proofs.Math.Seq.{drop-cons}
@@ -35,12 +36,15 @@ kept-none f test xs x e =
     ap (map f) (sym (append-nil (filter test xs)) ∙ ap (λ ys. filter test xs ++ ys) (ap (λ t. if t then x ∷ [] else []) (sym e)) ∙ sym (filter-append test xs (x ∷ [])))
 
 -- what a loop gathers of the items that pass a test, one item further
-pub one-gathered : {X Y : Type 0} (f : X → Y) (test : X → Bool) (all : List X) (i : ℕ) (x : X) (old new : List Y) (y : Y) → take (i + 1) all ≡ take i all ++ x ∷ [] → old ≡ map f (filter test (take i all)) → new ≡ old ++ y ∷ [] → y ≡ f x
+pub one-gathered : {X Y : Type 0} (f : X → Y) (test : X → Bool) (all : List X) (i : ℕ) (x : X) (old new : List Y)
+    (y : Y) → take (i + 1) all ≡ take i all ++ x ∷ [] → old ≡ map f (filter test (take i all)) → new ≡ old ++ y ∷ []
+    → y ≡ f x
     → test x ≡ true → new ≡ map f (filter test (take (i + 1) all))
 one-gathered f test all i x old new y more gathered pushed is passes =
     pushed ∙ (λ j. gathered j ++ is j ∷ []) ∙ kept-one f test (take i all) x passes ∙ ap (λ xs. map f (filter test xs)) (sym more)
 
-pub none-gathered : {X Y : Type 0} (f : X → Y) (test : X → Bool) (all : List X) (i : ℕ) (x : X) (old new : List Y) → take (i + 1) all ≡ take i all ++ x ∷ [] → old ≡ map f (filter test (take i all)) → new ≡ old
+pub none-gathered : {X Y : Type 0} (f : X → Y) (test : X → Bool) (all : List X) (i : ℕ) (x : X) (old new : List Y)
+    → take (i + 1) all ≡ take i all ++ x ∷ [] → old ≡ map f (filter test (take i all)) → new ≡ old
     → test x ≡ false → new ≡ map f (filter test (take (i + 1) all))
 none-gathered f test all i x old new more gathered same fails =
     same ∙ gathered ∙ kept-none f test (take i all) x fails ∙ ap (λ xs. map f (filter test xs)) (sym more)
@@ -52,7 +56,9 @@ set-at (z ∷ front) back x y zero e = absurd (omega (arith, e))
 set-at (z ∷ front) back x y (suc k) e = ap (λ ys. z ∷ ys) (set-at front back x y k (omega (arith, e)))
 
 -- a list whose elements are changed in place, one further and all
-pub one-moved : {A : Type 0} (f : A → A) (old now : List A) (k : ℕ) (d : A) → k < length old → now ≡ map f (take k old) ++ drop k old → set now k (f (slice_index_or now k d)) ≡ map f (take (k + 1) old) ++ drop (k + 1) old
+pub one-moved : {A : Type 0} (f : A → A) (old now : List A) (k : ℕ) (d : A) → k < length old
+    → now ≡ map f (take k old) ++ drop k old
+    → set now k (f (slice_index_or now k d)) ≡ map f (take (k + 1) old) ++ drop (k + 1) old
 one-moved f old now k d below is =
     let x = slice_index_or old k d in
     let front = map f (take k old) in

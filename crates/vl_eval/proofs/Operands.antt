@@ -9,7 +9,8 @@ use Rattle.vl_ast.specs.declared.expressions.Sized.{Sized}
 use Rattle.vl_ast.specs.declared.expressions.Expr.{Expr}
 use Rattle.vl_ast.specs.declared.expressions.Expr.TheOpen.{Expr-F}
 use Rattle.vl_ast.specs.declared.expressions.Expr.TheViews.{roll-Expr}
-use Rattle.vl_ast.specs.declared.expressions.Expr.TheVariants.{Name, Bit, Part, Literal, Concat, Repeat, AsSigned, AsUnsigned, Unary, Binary, Shift, Choose, rolls-Name, rolls-Bit, rolls-Part, rolls-Literal, rolls-Concat, rolls-Repeat, rolls-AsSigned, rolls-AsUnsigned, rolls-Unary, rolls-Binary, rolls-Shift, rolls-Choose}
+use Rattle.vl_ast.specs.declared.expressions.Expr.TheVariants.{Name, Bit, Part, Literal, Concat, Repeat, AsSigned, AsUnsigned, Unary, Binary, Shift, Choose, rolls-Name, rolls-Bit, rolls-Part}
+use Rattle.vl_ast.specs.declared.expressions.Expr.TheVariants.{rolls-Literal, rolls-Concat, rolls-Repeat, rolls-AsSigned, rolls-AsUnsigned, rolls-Unary, rolls-Binary, rolls-Shift, rolls-Choose}
 use Rattle.vl_ast.specs.declared.expressions.Expr.TheFolds.{map-Expr, para-Expr, para-roll-Expr, fold-roll-Expr}
 use Rattle.vl_ast.specs.Context.{Net, own_length, is_signed, length_step, sign_step, length_at, unary_place, binary_place}
 use Rattle.vl_ast.specs.Conditions.{is_number, is_sound, is_sound_step, is_narrow}
@@ -84,7 +85,9 @@ module _ (nets : List ℕ → Net) where
 
   pub sound-choose : (test chosen other : Expr) → is_sound nets (Choose test chosen other) ≡ true → (is_sound nets test ≡ true) × (is_sound nets chosen ≡ true) × (is_sound nets other ≡ true)
   sound-choose test chosen other h =
-      let both = and_parts (is_sound nets test && is_sound nets chosen) (is_sound nets other) (layer-sound (Expr-F.Choose test chosen other) (Choose test chosen other) (rolls-Choose test chosen other) h) in
+      let both = and_parts (is_sound nets test && is_sound nets chosen) (is_sound nets other)
+      (layer-sound (Expr-F.Choose test chosen other) (Choose test chosen other)
+      (rolls-Choose test chosen other) h) in
       let two = and_parts (is_sound nets test) (is_sound nets chosen) both.0 in
       (two.0, two.1, both.1)
 
@@ -130,11 +133,14 @@ module _ (nets : List ℕ → Net) where
   names-concat parts = names-of (Expr-F.Concat parts) (Concat parts) (rolls-Concat parts)
 
   pub sound-bit : (name : List ℕ) (place : ℕ) → is_sound nets (Bit name place) ≡ true → place < (nets name).width
-  sound-bit name place h = ltb-true place (nets name).width (and_parts (nat_lt 1 (nets name).width) (nat_lt place (nets name).width) (layer-sound (Expr-F.Bit name place) (Bit name place) (rolls-Bit name place) h)).1
+  sound-bit name place h = ltb-true place (nets name).width
+      (and_parts (nat_lt 1 (nets name).width) (nat_lt place (nets name).width)
+      (layer-sound (Expr-F.Bit name place) (Bit name place) (rolls-Bit name place) h)).1
 
   pub sound-part : (name : List ℕ) (high low : ℕ) → is_sound nets (Part name high low) ≡ true → (low ≤ high) × (high < (nets name).width)
   sound-part name high low h =
-      let both = and_parts (nat_lt 1 (nets name).width && nat_le low high) (nat_lt high (nets name).width) (layer-sound (Expr-F.Part name high low) (Part name high low) (rolls-Part name high low) h) in
+      let both = and_parts (nat_lt 1 (nets name).width && nat_le low high) (nat_lt high (nets name).width)
+      (layer-sound (Expr-F.Part name high low) (Part name high low) (rolls-Part name high low) h) in
       let two = and_parts (nat_lt 1 (nets name).width) (nat_le low high) both.0 in
       (leb-true low high two.1, ltb-true high (nets name).width both.1)
 

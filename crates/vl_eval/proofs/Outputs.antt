@@ -83,7 +83,9 @@ module _ (by_layer : ByLayer) (m : Module) (b : BreaksNone m) (scope : Scope) (s
     slot-below = let e = ap (λ (x : Output). x.slot) output-is in let w = slot-within here.name port-known in omega (arith, e, w)
 
     width-here : (nets_in scope here.name).width ≡ here.width
-    width-here = width-is by_layer m b scope s plan p (port_declared here) (mention-listed m b.acyclic.driven b.acyclic.once (port_declared here) (in-port m b.acyclic.driven b.acyclic.once here (out-at place below).inside))
+    width-here = width-is by_layer m b scope s plan p (port_declared here)
+        (mention-listed m b.acyclic.driven b.acyclic.once (port_declared here)
+        (in-port m b.acyclic.driven b.acyclic.once here (out-at place below).inside))
 
     pub output-few : o.width ≤ 128
     output-few = let e = ap (λ (x : Output). x.width) output-is in let w = width-here in let f = few by_layer m b scope s plan p here.name in omega (arith, e, w, f)
@@ -101,14 +103,18 @@ module _ (by_layer : ByLayer) (m : Module) (b : BreaksNone m) (scope : Scope) (s
       bits-are : bits ≡ named values here.name
       bits-are =
           let low = slot-below in
-          read ∙ get_or_default values o.slot bits 0 (omega (arith, low, room)) ∙ ap (λ (x : Output). slice_index values x.slot) output-is ∙ (λ k. named-row by_layer m b scope s plan p values k here.name)
+          read ∙ get_or_default values o.slot bits 0 (omega (arith, low, room))
+          ∙ ap (λ (x : Output). slice_index values x.slot) output-is
+          ∙ (λ k. named-row by_layer m b scope s plan p values k here.name)
 
       pub output-fits : FitsNamed values → bits < 2 ^ o.width
       output-fits fits =
           let f = fits (port_declared here) (mention-listed m b.acyclic.driven b.acyclic.once (port_declared here) (in-port m b.acyclic.driven b.acyclic.once here (out-at place below).inside)) in
           subst (λ n. bits < 2 ^ n) (sym (ap (λ (x : Output). x.width) output-is)) (subst (λ n. n < 2 ^ here.width) (sym bits-are) f)
 
-      pub output-shows : (port : Port) → slice_get (output_ports m) place ≡ Some port → number_of (record { width = o.width; signed = o.signed; bits = bits }) ≡ port_number port (named values port.name)
+      pub output-shows : (port : Port) → slice_get (output_ports m) place ≡ Some port
+          → number_of (record { width = o.width; signed = o.signed; bits = bits })
+          ≡ port_number port (named values port.name)
       output-shows port e =
           let same : here ≡ port = one (sym (out-at place below).found ∙ e) in
           (λ i. number_of (record { width = (output-is i).width; signed = (output-is i).signed; bits = bits-are i })) ∙ ap (λ (x : Port). port_number x (named values x.name)) same

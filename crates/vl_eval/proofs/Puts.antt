@@ -11,10 +11,12 @@ pub taken-none : (values : List ℕ) → IsTaken [] values values
 taken-none values = record { long = refl; each = λ place. inl (λ c h. absurd (none-in c h), refl) }
 
 -- what is captured hasn't changed yet
-pub still-there : (captures : List Capture) (before now : List ℕ) (from : ℕ) → IsTaken captures before now → ((c : Capture) → Contains captures c → c.to ≢ from) → slice_index now from ≡ slice_index before from
+pub still-there : (captures : List Capture) (before now : List ℕ) (from : ℕ) → IsTaken captures before now
+    → ((c : Capture) → Contains captures c → c.to ≢ from) → slice_index now from ≡ slice_index before from
 still-there captures before now from t apart = ⊎_elim (λ free. free.1) (λ moved. absurd (apart moved.0 moved.1 moved.2)) (t.each from)
 
-module _ (captures : List Capture) (c : Capture) (before now : List ℕ) (within : c.to < length now) (apart : (d : Capture) → Contains captures d → d.to ≢ c.from) (t : IsTaken captures before now) where
+module _ (captures : List Capture) (c : Capture) (before now : List ℕ) (within : c.to < length now)
+    (apart : (d : Capture) → Contains captures d → d.to ≢ c.from) (t : IsTaken captures before now) where
   abbrev after : List ℕ
   after = set now c.to (slice_index now c.from)
 
@@ -35,9 +37,13 @@ module _ (captures : List Capture) (c : Capture) (before now : List ℕ) (within
     same : slice_index after place ≡ slice_index now place
     same = get_or-set_other now c.to place (slice_index now c.from) 0 ne
 
-    by : (IsFree captures place × (slice_index now place ≡ slice_index before place)) ⊎ ((d : Capture) × Contains captures d × (d.to ≡ place) × (slice_index now place ≡ slice_index before d.from)) → Each place
+    by : (IsFree captures place × (slice_index now place ≡ slice_index before place))
+        ⊎ ((d : Capture) × Contains captures d × (d.to ≡ place)
+        × (slice_index now place ≡ slice_index before d.from)) → Each place
     by (inl old) = inl (
-      (λ d h. ⊎_elim (λ i. old.0 d i) (λ last. ⊎_elim (λ is to. ne (sym (ap (λ (x : Capture). x.to) is ∙ to))) (λ none. absurd (none-in d none)) (cons-cases c d [] last)) (Contains-append_cases captures (c ∷ []) d h)),
+      (λ d h. ⊎_elim (λ i. old.0 d i) (λ last. ⊎_elim (λ is to. ne (sym (ap (λ (x : Capture). x.to) is ∙ to)))
+          (λ none. absurd (none-in d none)) (cons-cases c d [] last))
+          (Contains-append_cases captures (c ∷ []) d h)),
       same ∙ old.1,
     )
     by (inr old) = inr (old.0, Contains-append_left captures (c ∷ []) old.0 old.1, old.2, same ∙ old.3)
@@ -51,7 +57,8 @@ module _ (captures : List Capture) (c : Capture) (before now : List ℕ) (within
 pub put-none : (bits values : List ℕ) → IsPut [] bits values values
 put-none bits values = record { long = refl; each = λ k low. absurd (omega (arith, low)); others = λ place free. refl }
 
-module _ (places : List ℕ) (place : ℕ) (bits before now : List ℕ) (within : place < length now) (apart : (k : ℕ) → k < length places → slice_index places k ≢ place) (p : IsPut places bits before now) where
+module _ (places : List ℕ) (place : ℕ) (bits before now : List ℕ) (within : place < length now)
+    (apart : (k : ℕ) → k < length places → slice_index places k ≢ place) (p : IsPut places bits before now) where
   abbrev new : ℕ
   new = slice_index bits (length places)
 

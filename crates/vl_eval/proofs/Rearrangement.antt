@@ -23,7 +23,9 @@ use Rattle.vl_eval.specs.inner.Site.{slot_at, slot_in}
 use Rattle.vl_eval.proofs.Builds.{grows-length, grows-none, settled-later}
 
 module _ (by_layer : ByLayer) (m : Module) (scope : Scope) (some : 0 < length (names_in scope)) (wires : List Op) (built arranged : Arranged)
-    (w : AreWired m scope built.slots.items wires) (c : AreCaptured m scope built.slots.items m.items wires built.ops built.captures.items) (a : IsArranged (length (names_in scope)) built arranged) where
+    (w : AreWired m scope built.slots.items wires)
+    (c : AreCaptured m scope built.slots.items m.items wires built.ops built.captures.items)
+    (a : IsArranged (length (names_in scope)) built arranged) where
   abbrev ops : List Op
   ops = built.ops
 

@@ -40,7 +40,10 @@ module _ (nets : List ℕ → Net) where
     few = few-of nets part (sound-unary nets of part ok)
 
     by : (q : Place) → own_length nets (Unary of part) ≡ length_at q (own_length nets part)
-        → (own_length nets part ≤ (context_at q (shape_of width signed) (shape_of (own_length nets part) (is_signed nets part))).length) × ((context_at q (shape_of width signed) (shape_of (own_length nets part) (is_signed nets part))).length ≤ 128)
+        → (own_length nets part ≤ (context_at q (shape_of width signed)
+        (shape_of (own_length nets part) (is_signed nets part))).length)
+        × ((context_at q (shape_of width signed)
+        (shape_of (own_length nets part) (is_signed nets part))).length ≤ 128)
     by InWhole e = (omega (arith, e, le), most)
     by Together e = (omega arith, few)
     by Alone e = (omega arith, few)

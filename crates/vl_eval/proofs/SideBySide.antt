@@ -1,5 +1,6 @@
 -- The operations of parts and of copies that stand side by side, added one behind another.
-use Rattle.std.proofs.Common.{◌≡◌, ◌<◌, ◌≤◌, ◌+◌, ◌*◌, ◌^◌, inl, inr, ℕ, zero, suc, max, sum, Bool, true, false, List, [], ◌∷◌, ◌++◌, length, map, flat_map, replicate, Contains, refl, sym, ap, subst, ◌∙◌, arith, take, drop, slice_index_or}
+use Rattle.std.proofs.Common.{◌≡◌, ◌<◌, ◌≤◌, ◌+◌, ◌*◌, ◌^◌, inl, inr, ℕ, zero, suc, max, sum, Bool, true, false, List, [], ◌∷◌, ◌++◌, length, map, flat_map, replicate, Contains, refl, sym, ap, subst}
+use Rattle.std.proofs.Common.{◌∙◌, arith, take, drop, slice_index_or}
 use Rattle.std.proofs.lemmas.Bool.{false≢true}
 use Rattle.std.proofs.Math.Nat.{mul-le-mul_right}
 use Rattle.std.proofs.lemmas.List.{map-append, take-append-drop, take_all, take_more}
@@ -32,7 +33,9 @@ use Rattle.vl_eval.proofs.Operands.{length-concat, sign-concat, sound-concat, so
 use Rattle.vl_eval.proofs.Builds.{grows-more, grows-none, grows-push, shows-later, ends, value, stays, alone-of, settled-later}
 
 -- none of some expressions is deeper than the deepest of them
-pub part-size : (deepest : List Expr → ℕ) → ((x : Expr) (xs : List Expr) → deepest (x ∷ xs) ≡ max (size-Expr x) (deepest xs)) → (xs : List Expr) (i : ℕ) (x : Expr) → i < length xs → x ≡ slice_index_or xs i x → size-Expr x ≤ deepest xs
+pub part-size : (deepest : List Expr → ℕ)
+    → ((x : Expr) (xs : List Expr) → deepest (x ∷ xs) ≡ max (size-Expr x) (deepest xs))
+    → (xs : List Expr) (i : ℕ) (x : Expr) → i < length xs → x ≡ slice_index_or xs i x → size-Expr x ≤ deepest xs
 part-size deepest next [] i x low is = absurd (omega (arith, low))
 part-size deepest next (y ∷ ys) zero x low is = let e = next y ys in let s = ap size-Expr is in omega (arith, e, s)
 part-size deepest next (y ∷ ys) (suc i) x low is = let e = next y ys in let r = part-size deepest next ys i x (omega (arith, low)) is in omega (arith, e, r)
@@ -58,7 +61,10 @@ module _ (by_layer : ByLayer) (base : ℕ) (scope : Scope) (slots : List ℕ) wh
   lengths parts = sum (map (own_length nets) parts)
 
   bits-more : (done : List Expr) (part : Expr) → (λ values. bits-of done values ++ bits_in nets (row_of at values) (own_length nets part) (is_signed nets part) part ∷ []) ≡ bits-of (done ++ part ∷ [])
-  bits-more done part = (λ i values. (sym (map-append (alone nets) (map (operand_of nets (row_of at values)) done) (operand_of nets (row_of at values) part ∷ [])) ∙ ap (map (alone nets)) (sym (map-append (operand_of nets (row_of at values)) done (part ∷ [])))) i)
+  bits-more done part = (λ i values. (sym
+      (map-append (alone nets) (map (operand_of nets (row_of at values)) done)
+      (operand_of nets (row_of at values) part ∷ []))
+      ∙ ap (map (alone nets)) (sym (map-append (operand_of nets (row_of at values)) done (part ∷ [])))) i)
 
   pub lengths-more : (done : List Expr) (part : Expr) → lengths done + own_length nets part ≡ lengths (done ++ part ∷ [])
   lengths-more done part =
@@ -79,7 +85,8 @@ module _ (by_layer : ByLayer) (base : ℕ) (scope : Scope) (slots : List ℕ) wh
   part-fit : (all : List Expr) (part : Expr) → Contains all part → (values : ℕ → ℕ) → Fit values (names-of all) → Fit values (names_read part)
   part-fit all part c values f = record { at = λ name n. f.at name (flat-in (λ p. p) (map names_read all) (names_read part) name (map-in names_read all part c) n) }
 
-  pub joined-more : (before now mid after : List Op) (slot slot' s length' : ℕ) (done all : List Expr) (part : Expr) (inner : Shape) → Contains all part → is_sound nets part ≡ true → lengths (done ++ part ∷ []) ≤ 128
+  pub joined-more : (before now mid after : List Op) (slot slot' s length' : ℕ) (done all : List Expr) (part : Expr)
+      (inner : Shape) → Contains all part → is_sound nets part ≡ true → lengths (done ++ part ∷ []) ≤ 128
       → inner.length ≡ own_length nets part → inner.signed ≡ is_signed nets part
       → Joined before now slot length' done all → Here now mid s inner.length inner.signed part → IsBeside base mid after slot' slot length' s inner.length
       → Joined before after slot' (length' + inner.length) (done ++ part ∷ []) all
@@ -101,15 +108,21 @@ module _ (by_layer : ByLayer) (base : ℕ) (scope : Scope) (slots : List ℕ) wh
   joined-more before now mid after slot slot' s length' done all part inner c ok few l g j b (inr (some, p)) =
       let own = own_length nets part in
       let v = value by_layer base scope slots mid s own (is_signed nets part) part ok (omega arith) (alone-of by_layer base scope slots mid s part inner l g b.shows) in
-      let left = subst (λ ops. ShowsBeside by_layer base nets at ops slot length' (bits-of done) (names-of all)) (sym b.grows.grown) (still-beside by_layer base nets at now b.grows.more slot length' (bits-of done) (names-of all) (j.shows some)) in
+      let left = subst (λ ops. ShowsBeside by_layer base nets at ops slot length' (bits-of done) (names-of all))
+      (sym b.grows.grown) (still-beside by_layer base nets at now b.grows.more slot length' (bits-of done)
+      (names-of all) (j.shows some)) in
       let room : length' + own ≤ 128 = (let m = lengths-more done part in let k = j.long in omega (arith, m, k, few)) in
       let low : own < 128 = omega (arith, room, some) in
       let p' : Pushed base mid after slot' (Beside slot s own) = subst (λ n. Pushed base mid after slot' (Beside slot s n)) l p in
       let both' = shows-beside by_layer base nets at mid slot s length' own (is_signed nets part) (bits-of done) (names-of all) part room (part-fit all part c) left v in
       let both : ShowsBeside by_layer base nets at after slot' (length' + own) (bits-of (done ++ part ∷ [])) (names-of all) =
       subst (λ bs. ShowsBeside by_layer base nets at after slot' (length' + own) bs (names-of all)) (bits-more done part)
-      (subst (λ k. ShowsBeside by_layer base nets at after k (length' + own) (λ values. bits-of done values ++ bits_in nets (row_of at values) own (is_signed nets part) part ∷ []) (names-of all)) (sym p'.place)
-      (subst (λ ops. ShowsBeside by_layer base nets at ops (base + length mid) (length' + own) (λ values. bits-of done values ++ bits_in nets (row_of at values) own (is_signed nets part) part ∷ []) (names-of all)) (sym p'.grown) both')) in
+      (subst (λ k. ShowsBeside by_layer base nets at after k (length' + own)
+      (λ values. bits-of done values ++ bits_in nets (row_of at values) own (is_signed nets part) part ∷ [])
+      (names-of all)) (sym p'.place)
+      (subst (λ ops. ShowsBeside by_layer base nets at ops (base + length mid) (length' + own)
+      (λ values. bits-of done values ++ bits_in nets (row_of at values) own (is_signed nets part) part ∷ [])
+      (names-of all)) (sym p'.grown) both')) in
       subst (λ n. Joined before after slot' (length' + n) (done ++ part ∷ []) all) (sym l)
       (record {
         grows = grows-more base before mid after (grows-more base before now mid j.grows b.grows) (grows-push base mid after slot' (Beside slot s own) (left.below, v.here.below, low) p');
@@ -150,11 +163,16 @@ module _ (by_layer : ByLayer) (base : ℕ) (scope : Scope) (slots : List ℕ) wh
       let e = ap lengths (parts-more parts i part below is) in
       omega (arith, whole, m, a, e, few)
 
-  pub built-parts : (parts : List Expr) (before now : List Op) (slot length' width : ℕ) (signed : Bool) → Joined before now slot length' parts parts → 0 < length' → Here before now slot width signed (Concat parts)
+  pub built-parts : (parts : List Expr) (before now : List Op) (slot length' width : ℕ) (signed : Bool)
+      → Joined before now slot length' parts parts → 0 < length' → Here before now slot width signed (Concat parts)
   built-parts parts before now slot length' width signed j some =
-      stays by_layer base scope slots before now slot width signed (Concat parts) (roll-Expr (Expr-F.Concat parts)) j.grows (rolls-Concat parts) (shows-concat by_layer base nets at now slot length' width signed parts (j.shows some))
+      stays by_layer base scope slots before now slot width signed (Concat parts)
+      (roll-Expr (Expr-F.Concat parts)) j.grows (rolls-Concat parts)
+      (shows-concat by_layer base nets at now slot length' width signed parts (j.shows some))
 
-  pub built-no-parts : (parts : List Expr) (before now after : List Op) (slot joined length' width : ℕ) (signed : Bool) → Joined before now joined length' parts parts → length' ≡ 0 → Pushed base now after slot (Constant 0) → Here before after slot width signed (Concat parts)
+  pub built-no-parts : (parts : List Expr) (before now after : List Op) (slot joined length' width : ℕ)
+      (signed : Bool) → Joined before now joined length' parts parts → length' ≡ 0
+      → Pushed base now after slot (Constant 0) → Here before after slot width signed (Concat parts)
   built-no-parts parts before now after slot joined length' width signed j none p =
       ends by_layer base scope slots before now after slot width signed (Concat parts) (roll-Expr (Expr-F.Concat parts)) (Constant 0) j.grows tt p (rolls-Concat parts)
       (shows-op by_layer base nets at now (Constant 0) width signed (Expr-F.Concat parts) (λ values s f. nothing (fold beside 0 (bits-of parts values)) (j.fits values s f)))
@@ -220,14 +238,18 @@ module _ (by_layer : ByLayer) (base : ℕ) (scope : Scope) (slots : List ℕ) wh
       let room : length' + own ≤ 128 = omega (arith, more, few) in
       let low : own < 128 = omega (arith, room, some) in
       let p' : Pushed base now after slot' (Beside slot s own) = subst (λ n. Pushed base now after slot' (Beside slot s n)) l p in
-      let both' = shows-beside by_layer base nets at now slot s length' own (is_signed nets part) (λ values. replicate count (one-bits part values)) (names_read part) part room (λ values f. f) c.shows v in
+      let both' = shows-beside by_layer base nets at now slot s length' own (is_signed nets part)
+      (λ values. replicate count (one-bits part values)) (names_read part) part room
+      (λ values f. f) c.shows v in
       subst (λ n. Copied before after slot' (length' + n) (count + 1) part) (sym l)
       (record {
         grows = grows-more base before now after c.grows (grows-push base now after slot' (Beside slot s own) (c.shows.below, v.here.below, low) p');
         long = more;
         shows = subst (λ bs. ShowsBeside by_layer base nets at after slot' (length' + own) bs (names_read part)) (λ i values. replicate-more count (one-bits part values) i)
             (subst (λ k. ShowsBeside by_layer base nets at after k (length' + own) (λ values. replicate count (one-bits part values) ++ one-bits part values ∷ []) (names_read part)) (sym p'.place)
-            (subst (λ ops. ShowsBeside by_layer base nets at ops (base + length now) (length' + own) (λ values. replicate count (one-bits part values) ++ one-bits part values ∷ []) (names_read part)) (sym p'.grown) both'));
+            (subst (λ ops. ShowsBeside by_layer base nets at ops (base + length now) (length' + own)
+            (λ values. replicate count (one-bits part values) ++ one-bits part values ∷ []) (names_read part))
+            (sym p'.grown) both'));
       })
     where
       one-more : (c w : ℕ) → c * w + w ≡ (c + 1) * w
@@ -237,9 +259,13 @@ module _ (by_layer : ByLayer) (base : ℕ) (scope : Scope) (slots : List ℕ) wh
   pub value-at : (before mid now : List Op) (s : ℕ) (part : Expr) (inner : Shape) → is_sound nets part ≡ true → inner.length ≡ own_length nets part → inner.signed ≡ is_signed nets part
       → Here before mid s inner.length inner.signed part → Grows base mid now → Value by_layer base nets at now s (own_length nets part) (is_signed nets part) part
   value-at before mid now s part inner ok l g b later =
-      value by_layer base scope slots now s (own_length nets part) (is_signed nets part) part ok (omega arith) (shows-later by_layer base scope slots mid now s (own_length nets part) (is_signed nets part) part later (alone-of by_layer base scope slots mid s part inner l g b.shows))
+      value by_layer base scope slots now s (own_length nets part) (is_signed nets part) part ok (omega arith)
+      (shows-later by_layer base scope slots mid now s (own_length nets part) (is_signed nets part) part later
+      (alone-of by_layer base scope slots mid s part inner l g b.shows))
 
-  pub beside-grows : (now after : List Op) (slot slot' s length' length'' : ℕ) → slot < base + length now → s < base + length now → length' + length'' ≤ 128 → IsBeside base now after slot' slot length' s length'' → Grows base now after
+  pub beside-grows : (now after : List Op) (slot slot' s length' length'' : ℕ) → slot < base + length now
+      → s < base + length now → length' + length'' ≤ 128 → IsBeside base now after slot' slot length' s length''
+      → Grows base now after
   beside-grows now after slot slot' s length' length'' a b room (inl (none, place, ops)) = subst (λ zs. Grows base now zs) (sym ops) (grows-none base now)
   beside-grows now after slot slot' s length' length'' a b room (inr (some, p)) = grows-push base now after slot' (Beside slot s length'') (a, b, omega (arith, room, some)) p
 
@@ -255,9 +281,12 @@ module _ (by_layer : ByLayer) (base : ℕ) (scope : Scope) (slots : List ℕ) wh
       let more = one-copy k (own_length nets part) in
       omega (arith, few, more, long)
 
-  pub built-copies : (count : ℕ) (part : Expr) (before now : List Op) (slot length' width : ℕ) (signed : Bool) → Copied before now slot length' count part → Here before now slot width signed (Repeat count part)
+  pub built-copies : (count : ℕ) (part : Expr) (before now : List Op) (slot length' width : ℕ) (signed : Bool)
+      → Copied before now slot length' count part → Here before now slot width signed (Repeat count part)
   built-copies count part before now slot length' width signed c =
-      stays by_layer base scope slots before now slot width signed (Repeat count part) (roll-Expr (Expr-F.Repeat count part)) c.grows (rolls-Repeat count part) (shows-repeat by_layer base nets at now slot length' width signed count part c.shows)
+      stays by_layer base scope slots before now slot width signed (Repeat count part)
+      (roll-Expr (Expr-F.Repeat count part)) c.grows (rolls-Repeat count part)
+      (shows-repeat by_layer base nets at now slot length' width signed count part c.shows)
 
   -- a place that shows an expression in every context shows it in its own
   pub shows-alone-too : (before now : Additions) (e : Expr) (alone : Alone) → alone.shape.length ≡ own_length nets e → is_signed nets e ≡ false → own_length nets e ≤ 128 → alone.shape.signed ≡ false

@@ -66,7 +66,9 @@ in-order x y m n n' low le = ⊎_elim
 
 levels-rise : (l l' n n' e e' : ℕ) → IsEntry l n e → IsEntry l' n' e' → n' < 2 ^ 29 → e ≤ e' → l ≤ l'
 levels-rise l l' n n' e e' a b low le =
-    let k : l * 32 + a.kind ≤ l' * 32 + b.kind = in-order (l * 32 + a.kind) (l' * 32 + b.kind) (2 ^ 29) n n' low (subst (λ x. x ≤ (l' * 32 + b.kind) * 2 ^ 29 + n') a.is (subst (λ x. e ≤ x) b.is le)) in
+    let k : l * 32 + a.kind ≤ l' * 32 + b.kind =
+    in-order (l * 32 + a.kind) (l' * 32 + b.kind) (2 ^ 29) n n' low
+    (subst (λ x. x ≤ (l' * 32 + b.kind) * 2 ^ 29 + n') a.is (subst (λ x. e ≤ x) b.is le)) in
     let few = b.few in
     omega (arith, k, few)
 
@@ -192,7 +194,9 @@ module _ (base : ℕ) (ops : List Op) (entries sorted places : List ℕ) (few : 
           let back : base + k - base ≡ k = omega arith in
           let to : move (base + k) ≡ base + here.p = moved-op base places (base + k) (omega arith) ∙ ap (slice_index places) back ∙ here.place in
           ap values to ∙ s.at here.p (Constant 0) within
-          ∙ ap (λ o. op_value o values) (at-place here.p (Constant 0) here.low ∙ ap (λ n. renamed move (slice_index_or ops n (Constant 0))) here.is ∙ ap (renamed move) (get_or_default ops k (Constant 0) d low))
+          ∙ ap (λ o. op_value o values) (at-place here.p (Constant 0) here.low
+          ∙ ap (λ n. renamed move (slice_index_or ops n (Constant 0))) here.is
+          ∙ ap (renamed move) (get_or_default ops k (Constant 0) d low))
           ∙ same-value move (slice_index_or ops k d) values
 
     pub moved-within : (k : ℕ) → base ≤ k → k < base + length ops → (base ≤ move k) × (move k < base + length ops)
@@ -212,7 +216,8 @@ entered-none base = record {
   rises = λ k d low. absurd (omega (arith, low));
 }
 
-module _ (base : ℕ) (ops : List Op) (op : Op) (levels entries : List ℕ) (level kind entry : ℕ) (few : kind < 32) (is : entry ≡ (level * 32 + kind) * 2 ^ 29 + length ops) (small : level ≤ length levels)
+module _ (base : ℕ) (ops : List Op) (op : Op) (levels entries : List ℕ) (level kind entry : ℕ) (few : kind < 32)
+    (is : entry ≡ (level * 32 + kind) * 2 ^ 29 + length ops) (small : level ≤ length levels)
     (above : each_of (IsAbove base levels level) op) (a : AreEntered base ops levels entries) where
   abbrev ops' : List Op
   ops' = ops ++ op ∷ []
@@ -277,7 +282,9 @@ module _ (base : ℕ) (ops : List Op) (op : Op) (levels entries : List ℕ) (lev
   }
 
 -- what an operation reads has its level
-pub reads-levelled : (base : ℕ) (ops : List Op) (levels : List ℕ) (k : ℕ) (op : Op) → IsOrdered base ops → k < length ops → length levels ≡ k → op ≡ slice_index_or ops k op → each_of (λ place. place < base + length levels) op
+pub reads-levelled : (base : ℕ) (ops : List Op) (levels : List ℕ) (k : ℕ) (op : Op) → IsOrdered base ops
+    → k < length ops → length levels ≡ k → op ≡ slice_index_or ops k op
+    → each_of (λ place. place < base + length levels) op
 reads-levelled base ops levels k op o low long is =
     each-one op (λ r less. omega (arith, less, long)) (reads-all op (base + k) (subst (λ x. reads_below x (base + k)) (sym is) (o.at k op low)))
 

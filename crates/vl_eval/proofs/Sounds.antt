@@ -1,5 +1,6 @@
 -- What the fourth condition says of each item and each name of a module.
-use Rattle.std.proofs.Common.{◌≡◌, ◌≤◌, ℕ, Bool, true, false, not, ◌&&◌, if◌then◌else◌, nat_le, ◌⊎◌, inl, inr, bytes_eq, List, [], ◌∷◌, map, find, Contains, Option, None, Some, refl, sym, subst, ◌∙◌, arith}
+use Rattle.std.proofs.Common.{◌≡◌, ◌≤◌, ℕ, Bool, true, false, not, ◌&&◌, if◌then◌else◌, nat_le, ◌⊎◌, inl, inr, bytes_eq, List, [], ◌∷◌, map, find, Contains, Option, None, Some, refl, sym, subst, ◌∙◌}
+use Rattle.std.proofs.Common.{arith}
 use Rattle.std.proofs.lemmas.Bool.{and_parts, leb-true, not-false}
 use Rattle.std.proofs.lemmas.List.Elements.{Contains-append_left, Contains-append_right}
 use Rattle.vl_ast.specs.declared.expressions.Sized.{Sized}
@@ -61,7 +62,8 @@ module _ (m : Module) (narrow : too_wide m ≡ None) where
     found-declared : (xs : List Declared) (name : List ℕ) (d : Declared) → find (λ (x : Declared). bytes_eq x.name name) xs ≡ Some d → Contains xs d
     found-declared [] name d e = absurd (cc e)
     found-declared (y ∷ ys) name d e = by (found-declared ys name d) (bytes_eq y.name name) e where
-      by : (find (λ (x : Declared). bytes_eq x.name name) ys ≡ Some d → Contains ys d) → (t : Bool) → (if t then Some y else find (λ (x : Declared). bytes_eq x.name name) ys) ≡ Some d → Contains (y ∷ ys) d
+      by : (find (λ (x : Declared). bytes_eq x.name name) ys ≡ Some d → Contains ys d) → (t : Bool)
+          → (if t then Some y else find (λ (x : Declared). bytes_eq x.name name) ys) ≡ Some d → Contains (y ∷ ys) d
       by rest true f = let same : y ≡ d = cc f in subst (λ z. Contains (y ∷ ys) z) same (head-in y ys)
       by rest false f = tail-in y d ys (rest f)
 
@@ -97,7 +99,9 @@ module _ (m : Module) (narrow : too_wide m ≡ None) where
 
   pub scope-always : (scope : Scope) → IsScopeOf m scope → (name : List ℕ) (first : Sized) (condition : Option Expr) (value : Expr) → Contains m.items (Always name first condition value)
       → (is_number first ≡ true) × (is_sound_condition (nets_in scope) condition ≡ true) × (is_sound (nets_in scope) value ≡ true)
-  scope-always scope s name first condition value c = subst (λ (f : List ℕ → Net). (is_number first ≡ true) × (is_sound_condition f condition ≡ true) × (is_sound f value ≡ true)) (sym (nets-of scope s)) (always-sound m narrow name first condition value c)
+  scope-always scope s name first condition value c =
+      subst (λ (f : List ℕ → Net). (is_number first ≡ true) × (is_sound_condition f condition ≡ true)
+      × (is_sound f value ≡ true)) (sym (nets-of scope s)) (always-sound m narrow name first condition value c)
 
   pub scope-few : (driven : undriven m ≡ None) (once : doubly m ≡ None) (scope : Scope) → IsScopeOf m scope → (name : List ℕ) → (nets_in scope name).width ≤ 128
   scope-few driven once scope s name = subst (λ (f : List ℕ → Net). (f name).width ≤ 128) (sym (nets-of scope s)) (width-few m narrow driven once name)

@@ -1,5 +1,6 @@
 -- The places of names that no item assigns, which a capture or a put may change, and the rows of settled values.
-use Rattle.std.proofs.Common.{◌≡◌, ◌≢◌, ◌<◌, ◌≤◌, ◌+◌, ◌^◌, ℕ, Bool, true, false, not, ◌&&◌, if◌then◌else◌, List, [], length, slice_get, slice_index, slice_index_or, codes, bytes_eq, Contains, Option, Some, refl, sym, ap, subst, ◌∙◌, arith}
+use Rattle.std.proofs.Common.{◌≡◌, ◌≢◌, ◌<◌, ◌≤◌, ◌+◌, ◌^◌, ℕ, Bool, true, false, not, ◌&&◌, if◌then◌else◌, List, [], length, slice_get, slice_index, slice_index_or, codes, bytes_eq, Contains, Option}
+use Rattle.std.proofs.Common.{Some, refl, sym, ap, subst, ◌∙◌, arith}
 use Rattle.std.proofs.lemmas.Bool.{and_parts, not-true}
 use Rattle.std.proofs.lemmas.Option.{slice_get_within, slice_get-get_or}
 use Rattle.std.proofs.lemmas.List.{get_or-map, length-map}
@@ -75,7 +76,9 @@ module _ (by_layer : ByLayer) (m : Module) (b : BreaksNone m) (scope : Scope) (s
   settled-wires values st = settled-later by_layer count scope slots p.wires ops p.captured.grows (λ k. slice_index values k) (settled-all values st)
 
   pub width-is : (d : Declared) → Contains (declarations m) d → (nets d.name).width ≡ d.net.width
-  width-is d listed = ap (λ (f : List ℕ → Net). (f d.name).width) nets-same ∙ ap (λ (n : Net). n.width) (net-is by_layer m b.acyclic.driven b.acyclic.once b.acyclic.acyclic d (listed-mention m b.acyclic.driven b.acyclic.once d listed))
+  width-is d listed = ap (λ (f : List ℕ → Net). (f d.name).width) nets-same
+      ∙ ap (λ (n : Net). n.width) (net-is by_layer m b.acyclic.driven b.acyclic.once b.acyclic.acyclic d
+      (listed-mention m b.acyclic.driven b.acyclic.once d listed))
 
   pub fits-known : (values : List ℕ) → IsSettledIn plan values → FixedFit m scope (row values) → (name : List ℕ) → IsListed m name → row values name < 2 ^ (nets name).width
   fits-known values st f name known = known-fits by_layer m scope s b.acyclic.driven b.acyclic.once few slots p.wires p.wired name known (λ k. slice_index values k) (settled-wires values st) f
@@ -144,9 +147,14 @@ module _ (by_layer : ByLayer) (m : Module) (b : BreaksNone m) (scope : Scope) (s
   input-known port h = (port_declared port, mention-listed m b.acyclic.driven b.acyclic.once (port_declared port) (in-port m b.acyclic.driven b.acyclic.once port h), refl)
 
   pub input-fixed : (port : Port) → Contains m.ports port → port.input ≡ true → IsFixed m port.name
-  input-fixed port h i value h' = may-not by_layer m b.acyclic.driven b.acyclic.once b.acyclic.acyclic false (port_declared port) (in-port m b.acyclic.driven b.acyclic.once port h) (ap (λ t. may_drive false (kind_of t)) i) (assign-drives m b.acyclic.driven b.acyclic.once port.name value h')
+  input-fixed port h i value h' = may-not by_layer m b.acyclic.driven b.acyclic.once b.acyclic.acyclic false
+      (port_declared port) (in-port m b.acyclic.driven b.acyclic.once port h)
+      (ap (λ t. may_drive false (kind_of t)) i)
+      (assign-drives m b.acyclic.driven b.acyclic.once port.name value h')
 
-  pub no-register : (port : Port) → Contains m.ports port → port.input ≡ true → (name : List ℕ) (first : Sized) (condition : Option Expr) (value : Expr) → Contains m.items (Always name first condition value) → name ≢ port.name
+  pub no-register : (port : Port) → Contains m.ports port → port.input ≡ true
+      → (name : List ℕ) (first : Sized) (condition : Option Expr) (value : Expr)
+      → Contains m.items (Always name first condition value) → name ≢ port.name
   no-register port h i name first condition value h' same =
       may-not by_layer m b.acyclic.driven b.acyclic.once b.acyclic.acyclic true (port_declared port) (in-port m b.acyclic.driven b.acyclic.once port h) (ap (λ t. may_drive true (kind_of t)) i)
       (subst (λ n. Contains (mentions m) (Drives true n)) same (always-drives m b.acyclic.driven b.acyclic.once name first condition value h'))
@@ -155,8 +163,12 @@ module _ (by_layer : ByLayer) (m : Module) (b : BreaksNone m) (scope : Scope) (s
   pub place-at : (k : ℕ) → k < length plan.inputs.items → (port : Port) × (slice_get (driven_ports m) k ≡ Some port) × (slice_index plan.inputs.items k ≡ slot_in scope slots port.name)
   place-at k low =
       let long : length plan.inputs.items ≡ length (driven_ports m) = ap length p.inputs ∙ length-map (driven_ports m) (slot_of_port scope slots) in
-      let below : k < length (driven_ports m) = omega (arith, long, low) in
-      (slice_index_or (driven_ports m) k any-port, slice_get-get_or (driven_ports m) k any-port below, ap (λ xs. slice_index xs k) p.inputs ∙ get_or-map (slot_of_port scope slots) (driven_ports m) k any-port 0 below)
+      let below : k < length (driven_ports m) = omega (arith, long, low) in (
+        slice_index_or (driven_ports m) k any-port,
+        slice_get-get_or (driven_ports m) k any-port below,
+        ap (λ xs. slice_index xs k) p.inputs
+            ∙ get_or-map (slot_of_port scope slots) (driven_ports m) k any-port 0 below,
+      )
 
   pub driven-in : (k : ℕ) (port : Port) → slice_get (driven_ports m) k ≡ Some port → Contains m.ports port × (port.input ≡ true) × (bytes_eq port.name (codes "clk") ≡ false)
   driven-in k port e =

@@ -26,12 +26,19 @@ settled-more base count at ops values op here ordered within room is s = record 
   same : (end : ℕ) → end ≤ at → (i : ℕ) → i < end → slice_index values i ≡ slice_index (set values at (op_value op (λ i. slice_index values i))) i
   same end low i below = sym (get_or-set_other values at i (op_value op (λ i. slice_index values i)) 0 (λ e. omega (arith, e)))
 
-  old : (k : ℕ) (d : Op) → k < count → slice_index (set values at (op_value op (λ i. slice_index values i))) (base + k) ≡ op_value (slice_index_or ops k d) (λ i. slice_index (set values at (op_value op (λ i. slice_index values i))) i)
+  old : (k : ℕ) (d : Op) → k < count → slice_index (set values at (op_value op (λ i. slice_index values i)))
+      (base + k) ≡ op_value (slice_index_or ops k d)
+      (λ i. slice_index (set values at (op_value op (λ i. slice_index values i))) i)
   old k d below =
       sym (same at (omega arith) (base + k) (omega arith)) ∙ s.at k d below
-      ∙ op-agrees (slice_index_or ops k d) (base + k) (ordered.at k d (omega arith)) (λ i. slice_index values i) (λ i. slice_index (set values at (op_value op (λ i. slice_index values i))) i) (same (base + k) (omega arith))
+      ∙ op-agrees (slice_index_or ops k d) (base + k) (ordered.at k d (omega arith)) (λ i. slice_index values i)
+      (λ i. slice_index (set values at (op_value op (λ i. slice_index values i))) i)
+      (same (base + k) (omega arith))
 
-  new : (k : ℕ) (d : Op) → k < count + 1 → count ≤ k → slice_index (set values at (op_value op (λ i. slice_index values i))) (base + k) ≡ op_value (slice_index_or ops k d) (λ i. slice_index (set values at (op_value op (λ i. slice_index values i))) i)
+  new : (k : ℕ) (d : Op) → k < count + 1 → count ≤ k
+      → slice_index (set values at (op_value op (λ i. slice_index values i))) (base + k)
+      ≡ op_value (slice_index_or ops k d)
+      (λ i. slice_index (set values at (op_value op (λ i. slice_index values i))) i)
   new k d below above =
       let e : k ≡ count = omega arith in
       let place : base + k ≡ at = omega arith in
@@ -39,7 +46,9 @@ settled-more base count at ops values op here ordered within room is s = record 
       ap (λ i. slice_index (set values at (op_value op (λ i. slice_index values i))) i) place
       ∙ get_or-set_same values at (op_value op (λ i. slice_index values i)) 0 (omega arith)
       ∙ ap (λ o. op_value o (λ i. slice_index values i)) this
-      ∙ op-agrees (slice_index_or ops k d) (base + k) (ordered.at k d (omega arith)) (λ i. slice_index values i) (λ i. slice_index (set values at (op_value op (λ i. slice_index values i))) i) (same (base + k) (omega arith))
+      ∙ op-agrees (slice_index_or ops k d) (base + k) (ordered.at k d (omega arith)) (λ i. slice_index values i)
+      (λ i. slice_index (set values at (op_value op (λ i. slice_index values i))) i)
+      (same (base + k) (omega arith))
 
 -- the value of the next operation goes to its place
 pub settled-step : (base count value : ℕ) (ops : List Op) (values : List ℕ) → IsOrdered base ops → count < length ops → base + length ops ≤ length values

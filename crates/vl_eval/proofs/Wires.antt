@@ -1,5 +1,6 @@
 -- One more number in the order: its assignment's operations, and the places of those before it stay.
-use Rattle.std.proofs.Common.{◌≡◌, ◌≢◌, ◌<◌, ◌≤◌, ◌+◌, ◌%◌, ◌^◌, inl, inr, ◌⊎◌, ⊎_elim, ℕ, max, List, [], length, set, slice_get, slice_index, slice_index_or, Contains, Option, None, Some, refl, sym, ap, subst, ◌∙◌, arith}
+use Rattle.std.proofs.Common.{◌≡◌, ◌≢◌, ◌<◌, ◌≤◌, ◌+◌, ◌%◌, ◌^◌, inl, inr, ◌⊎◌, ⊎_elim, ℕ, max, List, [], length, set, slice_get, slice_index, slice_index_or, Contains, Option, None, Some, refl, sym}
+use Rattle.std.proofs.Common.{ap, subst, ◌∙◌, arith}
 use Rattle.std.specs.Option.{option_and_then}
 use Rattle.std.proofs.lemmas.Bool.{cases_lt, cases_eq}
 use Rattle.std.proofs.lemmas.Nat.{mod_below, pow_pos}
@@ -28,7 +29,9 @@ use Rattle.vl_eval.specs.inner.PlaceBits.{Grows, NamesFit}
 use Rattle.vl_eval.specs.inner.Site.{ArePlaced, slot_at, slot_in}
 use Rattle.vl_eval.proofs.Builds.{grows-length, grows-more, grows-none, settled-later}
 
-module _ (by_layer : ByLayer) (m : Module) (scope : Scope) (order : List ℕ) (places : List (Option ℕ)) (s : IsScopeOf m scope) (driven : undriven m ≡ None) (once : doubly m ≡ None) (o : IsOrdering m scope order places) where
+module _ (by_layer : ByLayer) (m : Module) (scope : Scope) (order : List ℕ) (places : List (Option ℕ))
+    (s : IsScopeOf m scope) (driven : undriven m ≡ None) (once : doubly m ≡ None)
+    (o : IsOrdering m scope order places) where
   abbrev count : ℕ
   count = length (names_in scope)
 
@@ -47,7 +50,8 @@ module _ (by_layer : ByLayer) (m : Module) (scope : Scope) (order : List ℕ) (p
   read-known name read value j e c = s.knows read (map-in mentioned (mentions m) (Reads read) (reads-of-assign m driven once name read value (in-items name value j e) c))
 
   -- the number at a place is that of the name that its item assigns
-  at-order : (p j : ℕ) (name : List ℕ) (value : Expr) → slice_index_or places (slice_index order p) None ≡ Some j → slice_get m.items j ≡ Some (Assign name value) → number_in scope name ≡ Some (slice_index order p)
+  at-order : (p j : ℕ) (name : List ℕ) (value : Expr) → slice_index_or places (slice_index order p) None ≡ Some j
+      → slice_get m.items j ≡ Some (Assign name value) → number_in scope name ≡ Some (slice_index order p)
   at-order p j name value e item =
       let r = o.only (slice_index order p) j e in
       let same : Assign r.0 r.1 ≡ Assign name value = one-item (sym r.2 ∙ item) in
@@ -94,7 +98,8 @@ module _ (by_layer : ByLayer) (m : Module) (scope : Scope) (order : List ℕ) (p
     pub place : slice_index_or places k None ≡ Some j
     pub item : slice_get m.items j ≡ Some (Assign name value)
 
-  assigned-item : (j k : ℕ) (x : Option ModItem) (name : List ℕ) (value : Expr) → slice_get m.items j ≡ x → slice_index_or places k None ≡ Some j → as_assignment x ≡ Some (name, value) → Assigned k name value
+  assigned-item : (j k : ℕ) (x : Option ModItem) (name : List ℕ) (value : Expr) → slice_get m.items j ≡ x
+      → slice_index_or places k None ≡ Some j → as_assignment x ≡ Some (name, value) → Assigned k name value
   assigned-item j k (Some (Assign n v)) name value e place f =
       let both : (n, v) ≡ (name, value) = one-pair f in
       let same : Assign n v ≡ Assign name value = ap (λ (p : List ℕ × Expr). Assign p.0 p.1) both in
@@ -141,7 +146,9 @@ module _ (by_layer : ByLayer) (m : Module) (scope : Scope) (order : List ℕ) (p
   }
 
   -- a number that no item assigns
-  pub wired-same : (p : ℕ) (slots : List ℕ) (ops : List Op) → p < length order → slice_index_or places (slice_index order p) None ≡ None → IsWired m scope order places p slots ops → IsWired m scope order places (p + 1) slots ops
+  pub wired-same : (p : ℕ) (slots : List ℕ) (ops : List Op) → p < length order
+      → slice_index_or places (slice_index order p) None ≡ None → IsWired m scope order places p slots ops
+      → IsWired m scope order places (p + 1) slots ops
   wired-same p slots ops below none w = record {
     grows = w.grows;
     long = w.long;
@@ -153,14 +160,18 @@ module _ (by_layer : ByLayer) (m : Module) (scope : Scope) (order : List ℕ) (p
   }
 
   -- what the item at a place reads stands before it in the order
-  reads-before : (p j : ℕ) (name read : List ℕ) (value : Expr) → p < length order → slice_index_or places (slice_index order p) None ≡ Some j → slice_get m.items j ≡ Some (Assign name value) → Contains (names_read value) read
+  reads-before : (p j : ℕ) (name read : List ℕ) (value : Expr) → p < length order
+      → slice_index_or places (slice_index order p) None ≡ Some j → slice_get m.items j ≡ Some (Assign name value)
+      → Contains (names_read value) read
       → (k q : ℕ) × (number_in scope read ≡ Some k) × (q < p) × (slice_index order q ≡ k)
   reads-before p j name read value below place item c =
       let k = read-known name read value j item c in
       let q = o.earlier p j k.0 name read value below place item c k.1 in
       (k.0, q.0, k.1, q.1, q.2)
 
-  module _ (p j : ℕ) (name : List ℕ) (value : Expr) (below : p < length order) (place : slice_index_or places (slice_index order p) None ≡ Some j) (item : slice_get m.items j ≡ Some (Assign name value))
+  module _ (p j : ℕ) (name : List ℕ) (value : Expr) (below : p < length order)
+      (place : slice_index_or places (slice_index order p) None ≡ Some j)
+      (item : slice_get m.items j ≡ Some (Assign name value))
       (slots : List ℕ) (slot : ℕ) where
     abbrev v : ℕ
     v = slice_index order p
@@ -179,7 +190,9 @@ module _ (by_layer : ByLayer) (m : Module) (scope : Scope) (order : List ℕ) (p
     unassigned k none e = absurd (cc (sym (ap (λ n. slice_index_or places n None) e ∙ place), none))
 
     -- so do those that an earlier item reads
-    reads-keep : (q i : ℕ) (n read : List ℕ) (e : Expr) → q ≤ p → slice_index_or places (slice_index order q) None ≡ Some i → slice_get m.items i ≡ Some (Assign n e) → Contains (names_read e) read → slot_in scope slots' read ≡ slot_in scope slots read
+    reads-keep : (q i : ℕ) (n read : List ℕ) (e : Expr) → q ≤ p
+        → slice_index_or places (slice_index order q) None ≡ Some i → slice_get m.items i ≡ Some (Assign n e)
+        → Contains (names_read e) read → slot_in scope slots' read ≡ slot_in scope slots read
     reads-keep q i n read e le at it c =
         let r = reads-before q i n read e (omega (arith, le, below)) at it c in
         keeps read r.0 r.2 (λ same. before-p r.1 (omega (arith, r.3, le)) (r.4 ∙ same))
@@ -205,13 +218,18 @@ module _ (by_layer : ByLayer) (m : Module) (scope : Scope) (order : List ℕ) (p
     same-value : (q i : ℕ) (n : List ℕ) (e : Expr) (width : ℕ) → q ≤ p → slice_index_or places (slice_index order q) None ≡ Some i → slice_get m.items i ≡ Some (Assign n e) → (values : ℕ → ℕ)
         → assigned (nets_in scope) (row_in scope slots values) width e ≡ assigned (nets_in scope) (row_in scope slots' values) width e
     same-value q i n e width le at it values =
-        ap (λ x. x % 2 ^ width) (values-agree by_layer (nets_in scope) (row_in scope slots values) (row_in scope slots' values) e (max width (own_length (nets_in scope) e)) (is_signed (nets_in scope) e)
+        ap (λ x. x % 2 ^ width) (values-agree by_layer (nets_in scope) (row_in scope slots values)
+        (row_in scope slots' values) e (max width (own_length (nets_in scope) e)) (is_signed (nets_in scope) e)
         (λ read c. ap values (sym (reads-keep q i n read e le at it c))))
 
     -- the names that the assignment reads have bits that fit
-    reads-fit : (ops : List Op) → IsWired m scope order places p slots ops → (values : ℕ → ℕ) → IsSettled count ops values → FixedFit m scope (row_in scope slots values) → NamesFit (nets_in scope) (row_in scope slots values) (names_read value)
+    reads-fit : (ops : List Op) → IsWired m scope order places p slots ops → (values : ℕ → ℕ)
+        → IsSettled count ops values → FixedFit m scope (row_in scope slots values)
+        → NamesFit (nets_in scope) (row_in scope slots values) (names_read value)
     reads-fit ops w values st f = record { at = λ read c. on read c (reads-before p j name read value below place item c) } where
-      on : (read : List ℕ) → Contains (names_read value) read → (k q : ℕ) × (number_in scope read ≡ Some k) × (q < p) × (slice_index order q ≡ k) → row_in scope slots values read < 2 ^ (nets_in scope read).width
+      on : (read : List ℕ) → Contains (names_read value) read
+          → (k q : ℕ) × (number_in scope read ≡ Some k) × (q < p) × (slice_index order q ≡ k)
+          → row_in scope slots values read < 2 ^ (nets_in scope read).width
       on read c (k, q, known, less, at) = by (slice_index_or places k None) refl where
         by : (x : Option ℕ) → slice_index_or places k None ≡ x → row_in scope slots values read < 2 ^ (nets_in scope read).width
         by None e =
@@ -225,7 +243,9 @@ module _ (by_layer : ByLayer) (m : Module) (scope : Scope) (order : List ℕ) (p
             subst (λ n. row_in scope slots values n < 2 ^ (nets_in scope n).width) same
             (subst (λ x. x < 2 ^ (nets_in scope r.0).width) (sym (g.is values st f)) (mod_below _ (2 ^ (nets_in scope r.0).width) (pow_pos (nets_in scope r.0).width)))
 
-    pub wired-more : (ops ops' : List Op) (width : ℕ) → width ≡ (nets_in scope name).width → Assigns count scope slots ops ops' slot width value → IsWired m scope order places p slots ops → IsWired m scope order places (p + 1) slots' ops'
+    pub wired-more : (ops ops' : List Op) (width : ℕ) → width ≡ (nets_in scope name).width
+        → Assigns count scope slots ops ops' slot width value → IsWired m scope order places p slots ops
+        → IsWired m scope order places (p + 1) slots' ops'
     wired-more ops ops' width net a w = record {
       grows = grows-more count [] ops ops' w.grows a.grows;
       long = length-set slots v slot ∙ w.long;

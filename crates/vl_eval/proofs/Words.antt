@@ -1,5 +1,6 @@
 -- Words of 128 bits: what wraps, is masked, shifted and set side by side.
-use Rattle.std.proofs.Common.{◌≡◌, ◌<◌, ◌≤◌, ◌+◌, ◌-◌, ◌*◌, ◌/◌, ◌%◌, ◌^◌, inl, inr, ◌⊎◌, ⊎_elim, min, ℕ, zero, suc, Bool, true, false, not, ◌&&◌, if◌then◌else◌, nat_le, nat_lt, bit_and, zero-add, refl, sym, ap, subst, ◌∙◌, arith}
+use Rattle.std.proofs.Common.{◌≡◌, ◌<◌, ◌≤◌, ◌+◌, ◌-◌, ◌*◌, ◌/◌, ◌%◌, ◌^◌, inl, inr, ◌⊎◌, ⊎_elim, min, ℕ, zero, suc, Bool, true, false, not, ◌&&◌, if◌then◌else◌, nat_le, nat_lt, bit_and, zero-add}
+use Rattle.std.proofs.Common.{refl, sym, ap, subst, ◌∙◌, arith}
 use Rattle.std.proofs.lemmas.Bool.{cases_lt, leb-true, leb-false, ltb-true, ltb-false}
 use Rattle.std.proofs.lemmas.Nat.{pow_pos, pow-add, and_mask}
 use Rattle.std.proofs.Math.Nat.{mod-eq_of_lt, mul-le-mul_right, div-le_self, div-eq_of_lt, add-mul-mod_self_right}
@@ -7,7 +8,9 @@ use Rattle.std.proofs.Math.Pow.{pow_mono, mod-mod-pow}
 use Rattle.vl_ast.specs.declared.expressions.UnOp.{UnOp}
 use Rattle.vl_ast.specs.declared.expressions.UnOp.TheVariants.{Negate as NegateOf, Invert as InvertOf, IsZero as IsZeroOf}
 use Rattle.vl_ast.specs.declared.expressions.BinOp.{BinOp}
-use Rattle.vl_ast.specs.declared.expressions.BinOp.TheVariants.{Add as AddOf, Subtract as SubtractOf, Multiply as MultiplyOf, And as AndOf, Or as OrOf, Xor as XorOf, Equal as EqualOf, NotEqual as NotEqualOf, Less as LessOf, LessEqual as LessEqualOf, Greater as GreaterOf, GreaterEqual as GreaterEqualOf, Both as BothOf, Either as EitherOf}
+use Rattle.vl_ast.specs.declared.expressions.BinOp.TheVariants.{Add as AddOf, Subtract as SubtractOf, Multiply as MultiplyOf, And as AndOf, Or as OrOf, Xor as XorOf, Equal as EqualOf}
+use Rattle.vl_ast.specs.declared.expressions.BinOp.TheVariants.{NotEqual as NotEqualOf, Less as LessOf, LessEqual as LessEqualOf, Greater as GreaterOf, GreaterEqual as GreaterEqualOf, Both as BothOf}
+use Rattle.vl_ast.specs.declared.expressions.BinOp.TheVariants.{Either as EitherOf}
 use Rattle.vl_ast.specs.declared.expressions.ShiftOp.{ShiftOp}
 use Rattle.vl_ast.specs.declared.expressions.ShiftOp.TheVariants.{Left, Right, RightSigned}
 use Rattle.vl_ast.specs.Context.{InWhole, Together, Alone, unary_place, binary_place}
@@ -160,7 +163,9 @@ same-quotient y n w (inr (more, low)) =
     let p = pow_mono le in
     ap (λ k. y / 2 ^ k) e ∙ div-eq_of_lt low ∙ sym (div-eq_of_lt (omega (arith, p, low)))
 
-signed-down-gives : (n w a : ℕ) (values : ℕ → ℕ) → w ≤ 128 → values a < 2 ^ w → op_value (One (SignedDown (min n (w - 1)) (2 ^ (w - 1)) (2 ^ w - 1)) a) values ≡ shift_bits RightSigned (word w true (values a)) n
+signed-down-gives : (n w a : ℕ) (values : ℕ → ℕ) → w ≤ 128 → values a < 2 ^ w
+    → op_value (One (SignedDown (min n (w - 1)) (2 ^ (w - 1)) (2 ^ w - 1)) a) values
+    ≡ shift_bits RightSigned (word w true (values a)) n
 signed-down-gives n w a values most low = by (nat_le (2 ^ (w - 1)) (values a)) refl where
   below-mask : 2 ^ w - 1 < 2 ^ 128
   below-mask = let p = pow_mono most in let q = pow_pos w in omega (arith, p, q)

@@ -7,7 +7,8 @@ use Rattle.vl_ast.specs.declared.expressions.Sized.{Sized}
 use Rattle.vl_ast.specs.declared.expressions.Expr.{Expr}
 use Rattle.vl_ast.specs.declared.expressions.Expr.TheOpen.{Expr-F}
 use Rattle.vl_ast.specs.declared.expressions.Expr.TheVariants.{Name, Bit, Part, Literal, Concat, Repeat, AsSigned, AsUnsigned, Unary, Binary, Shift, Choose}
-use Rattle.vl_ast.specs.declared.expressions.Expr.TheVariants.{rolls-Name, rolls-Bit, rolls-Part, rolls-Literal, rolls-Concat, rolls-Repeat, rolls-AsSigned, rolls-AsUnsigned, rolls-Unary, rolls-Binary, rolls-Shift, rolls-Choose}
+use Rattle.vl_ast.specs.declared.expressions.Expr.TheVariants.{rolls-Name, rolls-Bit, rolls-Part, rolls-Literal, rolls-Concat, rolls-Repeat, rolls-AsSigned, rolls-AsUnsigned, rolls-Unary}
+use Rattle.vl_ast.specs.declared.expressions.Expr.TheVariants.{rolls-Binary, rolls-Shift, rolls-Choose}
 use Rattle.vl_ast.specs.declared.expressions.Expr.TheViews.{roll-Expr, out-Expr, roll-out-Expr, out-roll-Expr}
 use Rattle.vl_ast.specs.declared.expressions.Expr.TheFolds.{fold-roll-Expr}
 use Rattle.vl_inner.specs.Renamed.{Renaming, renamed, renamed_step, with_name, with_part}
@@ -63,7 +64,8 @@ over-bit name text place e is = ap (λ (x : Expr-F Expr). with_name x text) (for
 pub over-part : (name text : List ℕ) (high low : ℕ) (e : Expr) → e ≡ Part name high low → with_name (out-Expr e) text ≡ Part text high low
 over-part name text high low e is = ap (λ (x : Expr-F Expr). with_name x text) (form (Expr-F.Part name high low) e (is ∙ sym (rolls-Part name high low)))
 
-pub over-else : (text : List ℕ) (e : Expr) → ((name : List ℕ) (place : ℕ) → e ≡ Bit name place → ⊥) → ((name : List ℕ) (high low : ℕ) → e ≡ Part name high low → ⊥) → with_name (out-Expr e) text ≡ Name text
+pub over-else : (text : List ℕ) (e : Expr) → ((name : List ℕ) (place : ℕ) → e ≡ Bit name place → ⊥)
+    → ((name : List ℕ) (high low : ℕ) → e ≡ Part name high low → ⊥) → with_name (out-Expr e) text ≡ Name text
 over-else text e no-bit no-part = by (out-Expr e) (sym (roll-out-Expr e)) where
   by : (x : Expr-F Expr) → e ≡ roll-Expr x → with_name x text ≡ Name text
   by (Expr-F.Bit name place) is = absurd (no-bit name place (is ∙ rolls-Bit name place))

@@ -30,7 +30,10 @@ module _ (rename : Renaming) where
   fillings [] = refl
   fillings (part ∷ parts) = (λ i. part.1.filled i ∷ fillings parts i)
 
-  depth-layer : (y : Expr-F Known) → depth_step (map-Expr Expr ℕ depth (relabelled rename (map-Expr Expr Expr (renamed rename) (map-Expr Known Expr (λ p. p.0) y)))) ≡ depth_step (map-Expr Expr ℕ depth (map-Expr Known Expr (λ p. p.0) y))
+  depth-layer : (y : Expr-F Known) → depth_step
+      (map-Expr Expr ℕ depth (relabelled rename
+      (map-Expr Expr Expr (renamed rename) (map-Expr Known Expr (λ p. p.0) y))))
+      ≡ depth_step (map-Expr Expr ℕ depth (map-Expr Known Expr (λ p. p.0) y))
   depth-layer (Expr-F.Name name) = refl
   depth-layer (Expr-F.Bit name place) = refl
   depth-layer (Expr-F.Part name high low) = refl
@@ -44,7 +47,10 @@ module _ (rename : Renaming) where
   depth-layer (Expr-F.Shift op part amount) = ap (λ n. n + 1) part.1.deep
   depth-layer (Expr-F.Choose test chosen other) = (λ i. max (test.1.deep i) (max (chosen.1.deep i) (other.1.deep i)) + 1)
 
-  filled-layer : (y : Expr-F Known) → is_filled_step (map-Expr Expr Bool is_filled (relabelled rename (map-Expr Expr Expr (renamed rename) (map-Expr Known Expr (λ p. p.0) y)))) ≡ is_filled_step (map-Expr Expr Bool is_filled (map-Expr Known Expr (λ p. p.0) y))
+  filled-layer : (y : Expr-F Known) → is_filled_step
+      (map-Expr Expr Bool is_filled (relabelled rename
+      (map-Expr Expr Expr (renamed rename) (map-Expr Known Expr (λ p. p.0) y))))
+      ≡ is_filled_step (map-Expr Expr Bool is_filled (map-Expr Known Expr (λ p. p.0) y))
   filled-layer (Expr-F.Name name) = refl
   filled-layer (Expr-F.Bit name place) = refl
   filled-layer (Expr-F.Part name high low) = refl

@@ -15,7 +15,8 @@ use Rattle.vl_read.specs.inner.Places.Spot.{Operand, Opened, Braced, Value}
 use Rattle.vl_read.specs.inner.Places.Place.{Expression}
 use Rattle.vl_read.specs.declared.places.Draft.{Draft}
 use Rattle.vl_read.specs.inner.Lexemes.{kind_of, dec_of, sized_of}
-use Rattle.vl_read.specs.inner.Plain.{parse, step, innermost, innermost_of, indexed, value_step, frame_step, name_of, attr_step, declared, net_step, compound_step, operand_step, unary_or_left, opened_step, braced_step, left_step, goal_step, spot_step, item_step, step_at}
+use Rattle.vl_read.specs.inner.Plain.{parse, step, innermost, innermost_of, indexed, value_step, frame_step, name_of, attr_step, declared, net_step, compound_step, operand_step, unary_or_left}
+use Rattle.vl_read.specs.inner.Plain.{opened_step, braced_step, left_step, goal_step, spot_step, item_step, step_at}
 use Rattle.vl_read.specs.inner.LexemeSteps.{parser_at}
 use Rattle.vl_read.proofs.LexemeKinds.{name_kind, based_kind}
 use Rattle.vl_read.proofs.Layers.{by_layers}
@@ -87,7 +88,9 @@ first_of (Expr-F.AsUnsigned part) tokens lexemes w = (w.0, w.1, w.2, starts_at w
 first_of _ tokens lexemes w = (w.0, w.1, w.2, starts_at w.0 _ w.3 as_open)
 
 pub first_lexeme : (e : Expr) → HasFirst e
-first_lexeme e = by_layers HasFirst (λ y tokens lexemes w. let x : Expr-F Expr = map-Expr ((e : Expr) × HasFirst e) Expr (λ p. p.0) y in first_of x tokens lexemes (subst (λ t. Writes t lexemes) (layer_tokens x tokens) w).each) e
+first_lexeme e = by_layers HasFirst (λ y tokens lexemes w. let x : Expr-F Expr =
+    map-Expr ((e : Expr) × HasFirst e) Expr (λ p. p.0) y in
+    first_of x tokens lexemes (subst (λ t. Writes t lexemes) (layer_tokens x tokens) w).each) e
 
 -- an expression is read where an operand begins
 abbrev pub IsRead : Expr → Type 0

@@ -21,7 +21,8 @@ use Rattle.vl_read.specs.inner.Places.Spot.{Operand, Opened, Braced, Begins, Val
 use Rattle.vl_read.specs.inner.Places.{Goal, bracket_byte}
 use Rattle.vl_read.specs.declared.places.Draft.{Draft}
 use Rattle.vl_read.specs.inner.Lexemes.{kind_of, dec_of, sized_of}
-use Rattle.vl_read.specs.inner.Plain.{spot_at, step, indexed, name_of, left_by, attr_step, declared, net_step, compound_step, operand_step, unary_or_left, opened_step, braced_step, left_step, frame_step, goal_step, spot_step, item_step, step_at}
+use Rattle.vl_read.specs.inner.Plain.{spot_at, step, indexed, name_of, left_by, attr_step, declared, net_step, compound_step, operand_step, unary_or_left, opened_step, braced_step, left_step}
+use Rattle.vl_read.specs.inner.Plain.{frame_step, goal_step, spot_step, item_step, step_at}
 use Rattle.math_list.proofs.Tests.{same_bytes}
 use Rattle.vl_read.proofs.Expressions.{at, in_frame}
 
@@ -32,11 +33,15 @@ pub index_step : (draft : Draft) (goal : Goal) (frames : List Frame) (n : List �
 unfolding step attr_step declared net_step compound_step operand_step unary_or_left opened_step braced_step left_step frame_step goal_step spot_step item_step step_at
 index_step draft goal frames n = ap (λ o. indexed draft goal frames (name_of o)) (out-roll-Expr (Expr-F.Name n))
 
-pub high_step : (draft : Draft) (goal : Goal) (frames : List Frame) (n : List ℕ) (place : ℕ) (lexeme : List ℕ) → kind_of lexeme ≡ Count place → step (at draft goal frames (Index n)) lexeme ≡ Some (at draft goal frames (High n place))
+pub high_step : (draft : Draft) (goal : Goal) (frames : List Frame) (n : List ℕ) (place : ℕ) (lexeme : List ℕ)
+    → kind_of lexeme ≡ Count place → step (at draft goal frames (Index n)) lexeme
+    ≡ Some (at draft goal frames (High n place))
 unfolding step attr_step declared net_step compound_step operand_step unary_or_left opened_step braced_step left_step frame_step goal_step spot_step item_step step_at
 high_step draft goal frames n place lexeme h = rw h
 
-pub bit_step : (draft : Draft) (goal : Goal) (frames : List Frame) (n : List ℕ) (place : ℕ) → step (at draft goal frames (High n place)) (codes "]") ≡ Some (at draft goal frames (Value (roll-Expr (Expr-F.Bit n place))))
+pub bit_step : (draft : Draft) (goal : Goal) (frames : List Frame) (n : List ℕ) (place : ℕ)
+    → step (at draft goal frames (High n place)) (codes "]")
+    ≡ Some (at draft goal frames (Value (roll-Expr (Expr-F.Bit n place))))
 unfolding step attr_step declared net_step compound_step operand_step unary_or_left opened_step braced_step left_step frame_step goal_step spot_step item_step step_at
 bit_step draft goal frames n place = refl
 
@@ -44,15 +49,19 @@ pub colon_step : (draft : Draft) (goal : Goal) (frames : List Frame) (n : List �
 unfolding step attr_step declared net_step compound_step operand_step unary_or_left opened_step braced_step left_step frame_step goal_step spot_step item_step step_at
 colon_step draft goal frames n place = refl
 
-pub low_step : (draft : Draft) (goal : Goal) (frames : List Frame) (n : List ℕ) (high low : ℕ) (lexeme : List ℕ) → kind_of lexeme ≡ Count low → step (at draft goal frames (Low n high)) lexeme ≡ Some (at draft goal frames (Ends (roll-Expr (Expr-F.Part n high low)) CloseBracket))
+pub low_step : (draft : Draft) (goal : Goal) (frames : List Frame) (n : List ℕ) (high low : ℕ) (lexeme : List ℕ)
+    → kind_of lexeme ≡ Count low → step (at draft goal frames (Low n high)) lexeme
+    ≡ Some (at draft goal frames (Ends (roll-Expr (Expr-F.Part n high low)) CloseBracket))
 unfolding step attr_step declared net_step compound_step operand_step unary_or_left opened_step braced_step left_step frame_step goal_step spot_step item_step step_at
 low_step draft goal frames n high low lexeme h = rw h
 
-pub ends_step : (draft : Draft) (goal : Goal) (frames : List Frame) (e : Expr) (mark : Bracket) → step (at draft goal frames (Ends e mark)) (bracket_byte mark ∷ []) ≡ Some (at draft goal frames (Value e))
+pub ends_step : (draft : Draft) (goal : Goal) (frames : List Frame) (e : Expr) (mark : Bracket)
+    → step (at draft goal frames (Ends e mark)) (bracket_byte mark ∷ []) ≡ Some (at draft goal frames (Value e))
 unfolding step spot_step step_at
 ends_step draft goal frames e mark = ap (λ t. cond t (spot_at draft goal frames (Value e)) None) (same_bytes (bracket_byte mark ∷ []))
 
-pub operand_name : (draft : Draft) (goal : Goal) (frames : List Frame) (n : List ℕ) → kind_of n ≡ Name → step (at draft goal frames Operand) n ≡ Some (at draft goal frames (Value (roll-Expr (Expr-F.Name n))))
+pub operand_name : (draft : Draft) (goal : Goal) (frames : List Frame) (n : List ℕ) → kind_of n ≡ Name
+    → step (at draft goal frames Operand) n ≡ Some (at draft goal frames (Value (roll-Expr (Expr-F.Name n))))
 unfolding step attr_step declared net_step compound_step operand_step unary_or_left opened_step braced_step left_step frame_step goal_step spot_step item_step step_at
 operand_name draft goal frames n h = rw h
 
@@ -66,11 +75,15 @@ pub brace_step : (draft : Draft) (goal : Goal) (frames : List Frame) → length 
 unfolding step attr_step declared net_step compound_step operand_step unary_or_left opened_step braced_step left_step frame_step goal_step spot_step item_step step_at kind_of dec_of sized_of
 brace_step draft goal frames room = ap (λ t. cond t (spot_at draft goal frames Braced) None) (lt-ltb (length frames) 256 room)
 
-pub signed_step : (draft : Draft) (goal : Goal) (frames : List Frame) → length frames < 256 → step (at draft goal frames Operand) (codes "$signed") ≡ Some (at draft goal (frames ++ InCast true ∷ []) (Begins OpenParenthesis))
+pub signed_step : (draft : Draft) (goal : Goal) (frames : List Frame) → length frames < 256
+    → step (at draft goal frames Operand) (codes "$signed")
+    ≡ Some (at draft goal (frames ++ InCast true ∷ []) (Begins OpenParenthesis))
 unfolding step attr_step declared net_step compound_step operand_step unary_or_left opened_step braced_step left_step frame_step goal_step spot_step item_step step_at kind_of dec_of sized_of
 signed_step draft goal frames room = ap (λ t. cond t (spot_at draft goal (frames ++ InCast true ∷ []) (Begins OpenParenthesis)) None) (lt-ltb (length frames) 256 room)
 
-pub unsigned_step : (draft : Draft) (goal : Goal) (frames : List Frame) → length frames < 256 → step (at draft goal frames Operand) (codes "$unsigned") ≡ Some (at draft goal (frames ++ InCast false ∷ []) (Begins OpenParenthesis))
+pub unsigned_step : (draft : Draft) (goal : Goal) (frames : List Frame) → length frames < 256
+    → step (at draft goal frames Operand) (codes "$unsigned")
+    ≡ Some (at draft goal (frames ++ InCast false ∷ []) (Begins OpenParenthesis))
 unfolding step attr_step declared net_step compound_step operand_step unary_or_left opened_step braced_step left_step frame_step goal_step spot_step item_step step_at kind_of dec_of sized_of
 unsigned_step draft goal frames room = ap (λ t. cond t (spot_at draft goal (frames ++ InCast false ∷ []) (Begins OpenParenthesis)) None) (lt-ltb (length frames) 256 room)
 
@@ -78,7 +91,9 @@ pub begins_step : (draft : Draft) (goal : Goal) (frames : List Frame) (mark : Br
 unfolding step spot_step step_at
 begins_step draft goal frames mark = ap (λ t. cond t (spot_at draft goal frames Operand) None) (same_bytes (bracket_byte mark ∷ []))
 
-pub count_step : (draft : Draft) (goal : Goal) (frames : List Frame) (n : ℕ) (lexeme : List ℕ) → kind_of lexeme ≡ Count n → step (at draft goal frames Braced) lexeme ≡ Some (at draft goal (frames ++ InRepeat n ∷ []) (Begins OpenBrace))
+pub count_step : (draft : Draft) (goal : Goal) (frames : List Frame) (n : ℕ) (lexeme : List ℕ)
+    → kind_of lexeme ≡ Count n → step (at draft goal frames Braced) lexeme
+    ≡ Some (at draft goal (frames ++ InRepeat n ∷ []) (Begins OpenBrace))
 unfolding step attr_step declared net_step compound_step operand_step unary_or_left opened_step braced_step left_step frame_step goal_step spot_step item_step step_at
 count_step draft goal frames n lexeme h = rw h
 

@@ -20,12 +20,14 @@ use Rattle.vl_read.specs.declared.places.Frame.TheVariants.{InConcat, InRepeat, 
 use Rattle.vl_read.specs.inner.Places.Spot.{Operand, Opened, Braced, Begins, Value, Ends, Amount, Index, High, Low}
 use Rattle.vl_read.specs.inner.Places.{Goal}
 use Rattle.vl_read.specs.declared.places.Draft.{Draft}
-use Rattle.vl_read.specs.inner.Plain.{step, attr_step, declared, net_step, compound_step, operand_step, unary_or_left, opened_step, braced_step, left_step, frame_step, goal_step, spot_step, item_step, step_at}
+use Rattle.vl_read.specs.inner.Plain.{step, attr_step, declared, net_step, compound_step, operand_step, unary_or_left, opened_step, braced_step, left_step, frame_step, goal_step, spot_step, item_step}
+use Rattle.vl_read.specs.inner.Plain.{step_at}
 use Rattle.vl_read.proofs.Layers.{by_forms}
 use Rattle.vl_read.proofs.Expressions.{at, in_frame, IsRead, opened_read, braced_read}
 use Rattle.vl_read.proofs.TokenReader.{Writes, Reads, writes_as, next, sign, key, name, number, based}
 use Rattle.vl_read.proofs.FormTokens.{layer_tokens, unary_tokens, binary_tokens, shift_tokens, choose_tokens, as_signed_tokens, as_unsigned_tokens, repeat_tokens, more_tokens, concat_tokens}
-use Rattle.vl_read.proofs.FormSteps.{index_step, high_step, bit_step, colon_step, low_step, ends_step, operand_name, open_step, brace_step, signed_step, unsigned_step, begins_step, count_step, unary_step, binary_step, shift_step, question_step, amount_step}
+use Rattle.vl_read.proofs.FormSteps.{index_step, high_step, bit_step, colon_step, low_step, ends_step, operand_name, open_step, brace_step, signed_step, unsigned_step, begins_step, count_step}
+use Rattle.vl_read.proofs.FormSteps.{unary_step, binary_step, shift_step, question_step, amount_step}
 use Rattle.math_list.proofs.Places.{fold-start}
 
 -- the depth, the filling and the tokens of a layer
@@ -202,7 +204,9 @@ parts_read (p ∷ ps) draft goal frames done e tokens lexemes parts w =
     (λ l2 w2. let after = parts_read ps draft goal frames (done ++ e ∷ []) p.0 tokens l2 parts.1 w2 in
     subst (λ es. Reads (at draft goal inner (Value p.0)) l2 (at draft goal frames (Value (roll-Expr (Expr-F.Concat es)))) tokens) (append_assoc done (e ∷ []) (p.0 ∷ exprs_of ps)) after))
 
-all_parts : (ps : Parts) (frames : List Frame) (a : ℕ) → fold max a (map depth (exprs_of ps)) + 1 + length frames ≤ 256 → list_all (λ more. more) (map is_filled (exprs_of ps)) ≡ true → ArePart ps frames
+all_parts : (ps : Parts) (frames : List Frame) (a : ℕ)
+    → fold max a (map depth (exprs_of ps)) + 1 + length frames ≤ 256
+    → list_all (λ more. more) (map is_filled (exprs_of ps)) ≡ true → ArePart ps frames
 all_parts [] frames a deep filled = tt
 all_parts (p ∷ ps) frames a deep filled =
     let f = and_parts (is_filled p.0) (list_all (λ more. more) (map is_filled (exprs_of ps))) filled in

@@ -1,5 +1,6 @@
 -- How the bytes of gaps and of tokens are divided into lexemes.
-use Rattle.std.proofs.Common.{◌≡◌, ◌≢◌, inl, inr, ℕ, Bool, true, false, cond, List, [], ◌∷◌, ◌++◌, Option, Some, None, refl, sym, ◌∙◌, ap, subst, codes, arith, append_assoc, append-nil, option_and_then, option_map, flat_map, ne_eqb, ⊎_elim}
+use Rattle.std.proofs.Common.{◌≡◌, ◌≢◌, inl, inr, ℕ, Bool, true, false, cond, List, [], ◌∷◌, ◌++◌, Option, Some, None, refl, sym, ◌∙◌, ap, subst, codes, arith, append_assoc, append-nil}
+use Rattle.std.proofs.Common.{option_and_then, option_map, flat_map, ne_eqb, ⊎_elim}
 use Rattle.std.specs.Prelude.{◌==◌}
 use Rattle.std.specs.List.{AllByRecursion}
 use Rattle.std.proofs.lemmas.List.Elements.{Contains-append_right, recursion_from_All}
@@ -61,7 +62,9 @@ restart mode lexeme byte bytes is h =
 blank_class : (byte : ℕ) → is_blank byte ≡ true → class_of byte ≡ OfBlank
 unfolding class_of
 blank_class byte h = ⊎_elim
-    (λ h. ⊎_elim (λ h. ⊎_elim (λ h. ⊎_elim (λ h. is 32 refl (eqb-true byte 32 h)) (λ h. is 9 refl (eqb-true byte 9 h)) (or_cases _ _ h)) (λ h. is 10 refl (eqb-true byte 10 h)) (or_cases _ _ h)) (λ h. is 12 refl (eqb-true byte 12 h)) (or_cases _ _ h))
+    (λ h. ⊎_elim (λ h. ⊎_elim (λ h. ⊎_elim (λ h. is 32 refl (eqb-true byte 32 h))
+    (λ h. is 9 refl (eqb-true byte 9 h)) (or_cases _ _ h)) (λ h. is 10 refl (eqb-true byte 10 h))
+    (or_cases _ _ h)) (λ h. is 12 refl (eqb-true byte 12 h)) (or_cases _ _ h))
     (λ h. is 13 refl (eqb-true byte 13 h)) (or_cases _ _ h)
   where
     is : (k : ℕ) → class_of k ≡ OfBlank → byte ≡ k → class_of byte ≡ OfBlank
@@ -113,9 +116,13 @@ block_body : (star : Bool) (body bytes : List ℕ) → NoEnd (after_star star bo
 block_body true [] bytes h = silent Star Star [] [] 42 (47 ∷ bytes) refl ∙ silent Star Between [] [] 47 bytes refl
 block_body false [] bytes h = silent BlockComment Star [] [] 42 (47 ∷ bytes) refl ∙ silent Star Between [] [] 47 bytes refl
 block_body true (b ∷ bs) bytes h = elim (b == 42) as (λ t. (b == 42) ≡ t → lexemes_from Star [] ((b ∷ bs) ++ 42 ∷ 47 ∷ bytes) ≡ lexemes_from Between [] bytes) [
-  | true ↦ λ e. silent Star Star [] [] b (bs ++ 42 ∷ 47 ∷ bytes) (ap (λ t. cond t (moved [] Between []) (cond (b == 42) (moved [] Star []) (moved [] BlockComment []))) no_slash ∙ ap (λ t. cond t (moved [] Star []) (moved [] BlockComment [])) e)
+  | true ↦ λ e. silent Star Star [] [] b (bs ++ 42 ∷ 47 ∷ bytes)
+      (ap (λ t. cond t (moved [] Between []) (cond (b == 42) (moved [] Star []) (moved [] BlockComment [])))
+      no_slash ∙ ap (λ t. cond t (moved [] Star []) (moved [] BlockComment [])) e)
       ∙ block_body true bs bytes (subst (λ c. NoEnd (c ∷ bs)) (eqb-true b 42 e) (tail_no_end 42 (b ∷ bs) h))
-  | false ↦ λ e. silent Star BlockComment [] [] b (bs ++ 42 ∷ 47 ∷ bytes) (ap (λ t. cond t (moved [] Between []) (cond (b == 42) (moved [] Star []) (moved [] BlockComment []))) no_slash ∙ ap (λ t. cond t (moved [] Star []) (moved [] BlockComment [])) e)
+  | false ↦ λ e. silent Star BlockComment [] [] b (bs ++ 42 ∷ 47 ∷ bytes)
+      (ap (λ t. cond t (moved [] Between []) (cond (b == 42) (moved [] Star []) (moved [] BlockComment [])))
+      no_slash ∙ ap (λ t. cond t (moved [] Star []) (moved [] BlockComment [])) e)
       ∙ block_body false bs bytes (tail_no_end b bs (tail_no_end 42 (b ∷ bs) h))
 ] refl
   where
@@ -160,8 +167,12 @@ comment_no mode lexeme byte is_mark = refl
 filler_ends : (filler : Filler) (mode : Mode) (lexeme bytes : List ℕ) → IsOutside mode → IsFiller filler →
     lexemes_from mode lexeme (filler_text filler ++ bytes) ≡ option_map (λ more. ended mode lexeme ++ more) (lexemes_from Between [] (filler_text filler ++ bytes))
 filler_ends (Blank b) mode lexeme bytes out is = restart mode lexeme b bytes out (ap (λ c. continues mode c lexeme b) (blank_class b is) ∙ blank_no mode lexeme b out)
-filler_ends (LineFiller body) mode lexeme bytes out is = restart mode lexeme 47 (47 ∷ ((body ++ 10 ∷ []) ++ bytes)) out (ap (λ c. continues mode c lexeme 47) comment_class ∙ comment_no mode lexeme 47 out)
-filler_ends (BlockFiller body) mode lexeme bytes out is = restart mode lexeme 47 (42 ∷ ((body ++ 42 ∷ 47 ∷ []) ++ bytes)) out (ap (λ c. continues mode c lexeme 47) comment_class ∙ comment_no mode lexeme 47 out)
+filler_ends (LineFiller body) mode lexeme bytes out is =
+    restart mode lexeme 47 (47 ∷ ((body ++ 10 ∷ []) ++ bytes)) out
+    (ap (λ c. continues mode c lexeme 47) comment_class ∙ comment_no mode lexeme 47 out)
+filler_ends (BlockFiller body) mode lexeme bytes out is =
+    restart mode lexeme 47 (42 ∷ ((body ++ 42 ∷ 47 ∷ []) ++ bytes)) out
+    (ap (λ c. continues mode c lexeme 47) comment_class ∙ comment_no mode lexeme 47 out)
 
 fillers_end : (fillers : List Filler) (mode : Mode) (lexeme bytes : List ℕ) → IsOutside mode → AllByRecursion IsFiller fillers → flat_map filler_text fillers ≢ [] →
     lexemes_from mode lexeme (flat_map filler_text fillers ++ bytes) ≡ option_map (λ more. ended mode lexeme ++ more) (lexemes_from Between [] (flat_map filler_text fillers ++ bytes))

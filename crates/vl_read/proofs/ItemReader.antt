@@ -1,5 +1,6 @@
 -- Items are read from what is written for their tokens.
-use Rattle.std.proofs.Common.{◌≡◌, ℕ, ◌+◌, ◌<◌, ◌≤◌, Bool, true, false, cond, List, [], ◌∷◌, ◌++◌, length, Option, Some, None, refl, sym, ◌∙◌, ap, subst, codes, arith, append_assoc, append-nil, length-append, bytes_eq}
+use Rattle.std.proofs.Common.{◌≡◌, ℕ, ◌+◌, ◌<◌, ◌≤◌, Bool, true, false, cond, List, [], ◌∷◌, ◌++◌, length, Option, Some, None, refl, sym, ◌∙◌, ap, subst, codes, arith, append_assoc, append-nil}
+use Rattle.std.proofs.Common.{length-append, bytes_eq}
 use Rattle.std.specs.List.{AllZip, flat_map}
 use Rattle.std.proofs.lemmas.Bool.{lt-ltb}
 use Rattle.vl_ast.specs.declared.expressions.Sized.{Sized}
@@ -20,7 +21,8 @@ use Rattle.vl_read.specs.declared.places.Draft.{Draft}
 use Rattle.vl_read.specs.declared.places.HeadSpot.{HeadSpot}
 use Rattle.vl_read.specs.declared.places.HeadSpot.TheVariants.{Event, OpenEvent, Posedge, Clock, CloseEvent, Begin, Test, OpenTest, Reset, CloseTest}
 use Rattle.vl_read.specs.inner.Lexemes.{kind_of, dec_of, sized_of}
-use Rattle.vl_read.specs.inner.Plain.{head_word, after_head, step, parse, name_of, goal_step, net_item, declared, item_step, attr_step, net_step, compound_step, operand_step, unary_or_left, opened_step, braced_step, left_step, frame_step, spot_step, step_at}
+use Rattle.vl_read.specs.inner.Plain.{head_word, after_head, step, parse, name_of, goal_step, net_item, declared, item_step, attr_step, net_step, compound_step, operand_step, unary_or_left}
+use Rattle.vl_read.specs.inner.Plain.{opened_step, braced_step, left_step, frame_step, spot_step, step_at}
 use Rattle.vl_read.specs.inner.LexemeSteps.{parser_at, goes}
 use Rattle.vl_read.proofs.Expressions.{at, no_index}
 use Rattle.vl_read.proofs.Forms.{expression_read}
@@ -98,7 +100,9 @@ unfolding step step_at
 head_step draft at = ap (λ t. cond t (goes draft (after_head at)) None) (same_bytes (head_word at))
 
 abbrev after_always : List Token → List Token
-after_always tokens = Sign (codes "@") ∷ Sign (codes "(") ∷ Key (codes "posedge") ∷ Key (codes "clk") ∷ Sign (codes ")") ∷ Key (codes "begin") ∷ Key (codes "if") ∷ Sign (codes "(") ∷ Key (codes "reset") ∷ Sign (codes ")") ∷ tokens
+after_always tokens = Sign (codes "@") ∷ Sign (codes "(") ∷ Key (codes "posedge") ∷ Key (codes "clk")
+    ∷ Sign (codes ")") ∷ Key (codes "begin") ∷ Key (codes "if") ∷ Sign (codes "(") ∷ Key (codes "reset")
+    ∷ Sign (codes ")") ∷ tokens
 
 head_read : (draft : Draft) (tokens : List Token) (lexemes : List (List ℕ)) → Writes (after_always tokens) lexemes → Reads (parser_at draft (Head Event)) lexemes (parser_at draft ClockedName) tokens
 head_read draft tokens l0 w0 =
@@ -148,7 +152,9 @@ if_step : (draft : Draft) (n : List ℕ) (first : Sized) → step (parser_at dra
 unfolding step attr_step declared net_step compound_step operand_step unary_or_left opened_step braced_step left_step frame_step goal_step spot_step item_step step_at
 if_step draft n first = refl
 
-again_name : (draft : Draft) (n : List ℕ) (first : Sized) (condition : Option Expr) → kind_of n ≡ Name → step (parser_at draft (Again (clocked n first condition))) n ≡ Some (parser_at draft (NextSign (clocked n first condition)))
+again_name : (draft : Draft) (n : List ℕ) (first : Sized) (condition : Option Expr) → kind_of n ≡ Name
+    → step (parser_at draft (Again (clocked n first condition))) n
+    ≡ Some (parser_at draft (NextSign (clocked n first condition)))
 unfolding step attr_step declared net_step compound_step operand_step unary_or_left opened_step braced_step left_step frame_step goal_step spot_step item_step step_at
 again_name draft n first condition h = rw h (ap (λ t. cond t (goes draft (NextSign (clocked n first condition))) None) (same_bytes n))
 
@@ -168,7 +174,8 @@ condition_read (Some e) n first draft tokens lexemes is w =
     (λ l3 w3. next _ (parser_at draft (Again (clocked n first (Some e)))) _ l3 _ tokens (sign _ _ l3 (codes ")") _ (goal_read draft (Condition n first) e (codes ")") refl) w3)
     (λ l4 w4. name _ _ l4 n tokens (again_name draft n first (Some e)) w4))))
 
-always_read : (n : List ℕ) (first : Sized) (condition : Option Expr) (e : Expr) (written : List Token) → IsItemText (Always n first condition e) written → IsItemRead (Always n first condition e) written
+always_read : (n : List ℕ) (first : Sized) (condition : Option Expr) (e : Expr) (written : List Token)
+    → IsItemText (Always n first condition e) written → IsItemRead (Always n first condition e) written
 unfolding goal_step
 always_read n first condition e written is draft tokens lexemes room w =
     let item : ModItem = Always n first condition e in

@@ -1,5 +1,6 @@
 -- What the kind of a lexeme says of how its token is written.
-use Rattle.std.proofs.Common.{◌+◌, ◌*◌, ◌≡◌, ℕ, ◌<◌, ◌≤◌, ◌^◌, ◌⊎◌, Bool, true, false, cond, subst, List, [], ◌∷◌, ◌++◌, length, Option, Some, None, inl, inr, refl, sym, ◌∙◌, ap, arith, codes, option_and_then, option_map, eqb-true}
+use Rattle.std.proofs.Common.{◌+◌, ◌*◌, ◌≡◌, ℕ, ◌<◌, ◌≤◌, ◌^◌, ◌⊎◌, Bool, true, false, cond, subst, List, [], ◌∷◌, ◌++◌, length, Option, Some, None, inl, inr, refl, sym, ◌∙◌, ap, arith, codes}
+use Rattle.std.proofs.Common.{option_and_then, option_map, eqb-true}
 use Rattle.std.specs.Prelude.{◌==◌, ◌&&◌, ◌||◌, nat_le, nat_lt}
 use Rattle.std.proofs.lemmas.Bool.{and_parts, or_cases, cond_both, ltb-true, leb-true}
 use Rattle.std.specs.Str.Parse.{IsNumeral, digits_value}
@@ -137,7 +138,11 @@ marked_sound width (b ∷ bs) s e =
     e
   where
     sign_mark : (b == 115 || b == 83) ≡ true → (b ∷ [] ≡ codes "s") ⊎ (b ∷ [] ≡ codes "S")
-    sign_mark t = elim (or_cases (b == 115) (b == 83) t) as (λ x. (b ∷ [] ≡ codes "s") ⊎ (b ∷ [] ≡ codes "S")) [ inl h ↦ inl (ap (λ x. x ∷ []) (eqb-true b 115 h)) | inr h ↦ inr (ap (λ x. x ∷ []) (eqb-true b 83 h)) ]
+    sign_mark t = elim (or_cases (b == 115) (b == 83) t) as
+        (λ x. (b ∷ [] ≡ codes "s") ⊎ (b ∷ [] ≡ codes "S")) [
+          | inl h ↦ inl (ap (λ x. x ∷ []) (eqb-true b 115 h))
+          | inr h ↦ inr (ap (λ x. x ∷ []) (eqb-true b 83 h))
+        ]
 
 based_as : (lexeme : List ℕ) (s : Sized) (parts : List ℕ × List ℕ) (width : ℕ) → lexeme ≡ parts.0 ++ 39 ∷ parts.1 → IsDec width parts.0 → Marked width parts.1 s → IsBased s lexeme
 based_as lexeme s parts width text dec marked =

@@ -1,5 +1,6 @@
 -- What a lexeme may be, from how its token is written.
-use Rattle.std.proofs.Common.{◌+◌, ◌*◌, subst, ◌≡◌, ℕ, ◌<◌, ◌≤◌, ◌^◌, Bool, true, false, cond, List, [], ◌∷◌, ◌++◌, length, Some, None, refl, sym, ◌∙◌, ap, arith, option_and_then, option_map, inl, inr, ne_eqb, lt-ltb}
+use Rattle.std.proofs.Common.{◌+◌, ◌*◌, subst, ◌≡◌, ℕ, ◌<◌, ◌≤◌, ◌^◌, Bool, true, false, cond, List, [], ◌∷◌, ◌++◌, length, Some, None, refl, sym, ◌∙◌, ap, arith, option_and_then, option_map, inl}
+use Rattle.std.proofs.Common.{inr, ne_eqb, lt-ltb}
 use Rattle.std.specs.Prelude.{◌==◌, ◌&&◌, ◌||◌, nat_le, nat_lt}
 use Rattle.std.specs.List.{list_all}
 use Rattle.std.proofs.lemmas.Bool.{and_from, and_left, le-leb, lt-leb, or_from, cond_both}
@@ -35,7 +36,9 @@ after_grows base (d ∷ ds) n m h positive = after_grows base ds n (m * base + d
     more_digits : (n m base d : ℕ) → n ≤ m → 0 < base → n ≤ m * base + d
     more_digits n m base d h positive = let e : m * 1 ≤ m * base = mul-le-mul_left m positive in omega (arith, e)
 
-pub number_read : (base : ℕ) (digits : List ℕ) (n : ℕ) → 0 < base → AllDigits base digits → digits_value_after base n digits < 2 ^ 128 → number_after base n digits ≡ Some (digits_value_after base n digits)
+pub number_read : (base : ℕ) (digits : List ℕ) (n : ℕ) → 0 < base → AllDigits base digits
+    → digits_value_after base n digits < 2 ^ 128
+    → number_after base n digits ≡ Some (digits_value_after base n digits)
 number_read base [] n positive all fits = refl
 number_read base (d ∷ ds) n positive all fits =
     let next : ℕ = n * base + digit_value d in
@@ -86,11 +89,14 @@ quote_after (d ∷ ds) rest all =
 
 no_number : (digits rest : List ℕ) (n : ℕ) → number_after 10 n (digits ++ 39 ∷ rest) ≡ None
 no_number [] rest n = refl
-no_number (d ∷ ds) rest n = cond_both (is_digit 10 d && nat_lt (n * 10 + digit_value d) (2 ^ 128)) (number_after 10 (n * 10 + digit_value d) (ds ++ 39 ∷ rest)) None (λ o. o ≡ None) (λ _. no_number ds rest (n * 10 + digit_value d)) (λ _. refl)
+no_number (d ∷ ds) rest n = cond_both (is_digit 10 d && nat_lt (n * 10 + digit_value d) (2 ^ 128))
+    (number_after 10 (n * 10 + digit_value d) (ds ++ 39 ∷ rest)) None (λ o. o ≡ None)
+    (λ _. no_number ds rest (n * 10 + digit_value d)) (λ _. refl)
 
 no_dec : (digits rest : List ℕ) → dec_of (digits ++ 39 ∷ rest) ≡ None
 unfolding dec_of
-no_dec digits rest = cond_both (is_nonempty (digits ++ 39 ∷ rest) && nat_le (length (digits ++ 39 ∷ rest)) 9) (number_after 10 0 (digits ++ 39 ∷ rest)) None (λ o. o ≡ None) (λ _. no_number digits rest 0) (λ _. refl)
+no_dec digits rest = cond_both (is_nonempty (digits ++ 39 ∷ rest) && nat_le (length (digits ++ 39 ∷ rest)) 9)
+    (number_after 10 0 (digits ++ 39 ∷ rest)) None (λ o. o ≡ None) (λ _. no_number digits rest 0) (λ _. refl)
 
 -- the digits of a based number
 digits_read : (width : ℕ) (signed : Bool) (base : ℕ) (digits : List ℕ) → 0 < base → IsNumeral base digits → length digits ≤ 128 → digits_value base digits < 2 ^ 128 →

@@ -217,7 +217,9 @@ record Restarted (lexemes front : List (List ℕ)) (bytes : List ℕ) : Type 0 w
   pub read : lexemes_from Between [] bytes ≡ Some more
   pub same : lexemes ≡ front ++ more
 
-mapped : (o : Option (List (List ℕ))) (front lexemes : List (List ℕ)) (bytes : List ℕ) → lexemes_from Between [] bytes ≡ o → option_map (λ more. front ++ more) o ≡ Some lexemes → Restarted lexemes front bytes
+mapped : (o : Option (List (List ℕ))) (front lexemes : List (List ℕ)) (bytes : List ℕ)
+    → lexemes_from Between [] bytes ≡ o → option_map (λ more. front ++ more) o ≡ Some lexemes
+    → Restarted lexemes front bytes
 mapped None front lexemes bytes e h = absurd (none-some _ h)
 mapped (Some more) front lexemes bytes e h = record { more = more; read = e; same = sym (same_Some _ _ h) }
 
@@ -227,7 +229,8 @@ restarted mode lexeme byte bytes tokens out cut d =
     mapped (lexemes_from Between [] (byte ∷ bytes)) (ended mode lexeme) d.lexemes (byte ∷ bytes) refl (sym (restart mode lexeme byte bytes out cut) ∙ d.read)
 
 -- the byte goes on with no lexeme
-from_between : (lexeme : List ℕ) (byte : ℕ) (bytes : List ℕ) (tokens : List Token) → AreLaid bytes → AreDivided Between lexeme (byte ∷ bytes) tokens → (after : Bool) → (after ≡ true → class_of byte ≢ OfWord) →
+from_between : (lexeme : List ℕ) (byte : ℕ) (bytes : List ℕ) (tokens : List Token) → AreLaid bytes
+    → AreDivided Between lexeme (byte ∷ bytes) tokens → (after : Bool) → (after ≡ true → class_of byte ≢ OfWord) →
     Lays after tokens (byte ∷ bytes)
 from_between lexeme byte bytes tokens laid d after wordless = by_class (class_of byte) refl
   where
@@ -248,7 +251,9 @@ from_between lexeme byte bytes tokens laid d after wordless = by_class (class_of
     by_class OfMark e = laid Mark (byte ∷ []) tokens (moved_on Between Mark lexeme (byte ∷ []) byte bytes tokens d (goes OfMark e)) e after
     by_class OfNone e = absurd (stopped Between lexeme byte bytes tokens d (goes OfNone e))
 
-from_word : (lexeme : List ℕ) (byte : ℕ) (bytes : List ℕ) (tokens : List Token) → AreLaid bytes → AreDivided Word lexeme (byte ∷ bytes) tokens → Begins OfWord lexeme → Lays false tokens (lexeme ++ byte ∷ bytes)
+from_word : (lexeme : List ℕ) (byte : ℕ) (bytes : List ℕ) (tokens : List Token) → AreLaid bytes
+    → AreDivided Word lexeme (byte ∷ bytes) tokens → Begins OfWord lexeme
+    → Lays false tokens (lexeme ++ byte ∷ bytes)
 from_word lexeme byte bytes tokens laid d begins = by_class (class_of byte) refl
   where
     ends : (class : ByteClass) → class_of byte ≡ class → continues Word class lexeme byte ≡ false → class ≢ OfWord → Lays false tokens (lexeme ++ byte ∷ bytes)
@@ -260,13 +265,17 @@ from_word lexeme byte bytes tokens laid d begins = by_class (class_of byte) refl
     by_class : (class : ByteClass) → class_of byte ≡ class → Lays false tokens (lexeme ++ byte ∷ bytes)
     by_class OfWord e =
         subst (Lays false tokens) (append_assoc lexeme (byte ∷ []) bytes)
-        (laid Word (lexeme ++ byte ∷ []) tokens (moved_on Word Word lexeme (lexeme ++ byte ∷ []) byte bytes tokens d (ap (λ class. outside Word lexeme class byte) e)) (begins_more OfWord lexeme (byte ∷ []) begins))
+        (laid Word (lexeme ++ byte ∷ []) tokens
+        (moved_on Word Word lexeme (lexeme ++ byte ∷ []) byte bytes tokens d
+        (ap (λ class. outside Word lexeme class byte) e)) (begins_more OfWord lexeme (byte ∷ []) begins))
     by_class OfBlank e = ends OfBlank e refl (λ h. cc)
     by_class OfComment e = ends OfComment e refl (λ h. cc)
     by_class OfMark e = ends OfMark e refl (λ h. cc)
     by_class OfNone e = ends OfNone e refl (λ h. cc)
 
-from_mark : (lexeme : List ℕ) (byte : ℕ) (bytes : List ℕ) (tokens : List Token) → AreLaid bytes → AreDivided Mark lexeme (byte ∷ bytes) tokens → Begins OfMark lexeme → (after : Bool) → Lays after tokens (lexeme ++ byte ∷ bytes)
+from_mark : (lexeme : List ℕ) (byte : ℕ) (bytes : List ℕ) (tokens : List Token) → AreLaid bytes
+    → AreDivided Mark lexeme (byte ∷ bytes) tokens → Begins OfMark lexeme → (after : Bool)
+    → Lays after tokens (lexeme ++ byte ∷ bytes)
 from_mark lexeme byte bytes tokens laid d begins after = ⊎_elim longer ends (cases_Bool (continues Mark (class_of byte) lexeme byte))
   where
     longer : continues Mark (class_of byte) lexeme byte ≡ true → Lays after tokens (lexeme ++ byte ∷ bytes)
@@ -284,11 +293,14 @@ from_mark lexeme byte bytes tokens laid d begins after = ⊎_elim longer ends (c
 
 -- and in comments
 
-from_slash : (lexeme : List ℕ) (byte : ℕ) (bytes : List ℕ) (tokens : List Token) → AreLaid bytes → AreDivided Slash lexeme (byte ∷ bytes) tokens → (after : Bool) → Lays after tokens (47 ∷ byte ∷ bytes)
+from_slash : (lexeme : List ℕ) (byte : ℕ) (bytes : List ℕ) (tokens : List Token) → AreLaid bytes
+    → AreDivided Slash lexeme (byte ∷ bytes) tokens → (after : Bool) → Lays after tokens (47 ∷ byte ∷ bytes)
 from_slash lexeme byte bytes tokens laid d after = ⊎_elim line other (cases_Bool (byte == 47))
   where
     step : (a b : Bool) → (byte == 47) ≡ a → (byte == 42) ≡ b → move Slash lexeme byte ≡ cond a (moved [] LineComment []) (cond b (moved [] BlockComment []) None)
-    step a b first second = ap (λ t. cond t (moved [] LineComment []) (cond (byte == 42) (moved [] BlockComment []) None)) first ∙ ap (λ t. cond a (moved [] LineComment []) (cond t (moved [] BlockComment []) None)) second
+    step a b first second = ap (λ t. cond t (moved [] LineComment [])
+        (cond (byte == 42) (moved [] BlockComment []) None)) first
+        ∙ ap (λ t. cond a (moved [] LineComment []) (cond t (moved [] BlockComment []) None)) second
 
     line : (byte == 47) ≡ true → Lays after tokens (47 ∷ byte ∷ bytes)
     line e =
@@ -331,7 +343,9 @@ from_star : (lexeme : List ℕ) (byte : ℕ) (bytes : List ℕ) (tokens : List T
 from_star lexeme byte bytes tokens laid d = ⊎_elim ends other (cases_Bool (byte == 47))
   where
     step : (a b : Bool) → (byte == 47) ≡ a → (byte == 42) ≡ b → move Star lexeme byte ≡ cond a (moved [] Between []) (cond b (moved [] Star []) (moved [] BlockComment []))
-    step a b first second = ap (λ t. cond t (moved [] Between []) (cond (byte == 42) (moved [] Star []) (moved [] BlockComment []))) first ∙ ap (λ t. cond a (moved [] Between []) (cond t (moved [] Star []) (moved [] BlockComment []))) second
+    step a b first second = ap (λ t. cond t (moved [] Between [])
+        (cond (byte == 42) (moved [] Star []) (moved [] BlockComment []))) first
+        ∙ ap (λ t. cond a (moved [] Between []) (cond t (moved [] Star []) (moved [] BlockComment []))) second
 
     ends : (byte == 47) ≡ true → BlockRest tokens (42 ∷ byte ∷ bytes)
     ends e =
@@ -364,6 +378,8 @@ all_laid [] = at_end
 all_laid (byte ∷ bytes) = λ mode lexeme tokens d. laid_more mode lexeme byte bytes tokens (all_laid bytes) d
 
 -- the tokens that the lexemes of the bytes are written for
-pub laid : (bytes : List ℕ) (lexemes : List (List ℕ)) (tokens : List Token) (before : Token) → lexemes_from Between [] bytes ≡ Some lexemes → Writes tokens lexemes → safe before tokens ≡ true → Lays false tokens bytes
+pub laid : (bytes : List ℕ) (lexemes : List (List ℕ)) (tokens : List Token) (before : Token)
+    → lexemes_from Between [] bytes ≡ Some lexemes → Writes tokens lexemes → safe before tokens ≡ true
+    → Lays false tokens bytes
 laid bytes lexemes tokens before read writes fits =
     all_laid bytes Between [] tokens (record { lexemes = lexemes; read = read; are = record { before = before; writes = writes.each; fits = fits } }) false (λ h. absurd (false≢true h))

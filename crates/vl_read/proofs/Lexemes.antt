@@ -1,5 +1,6 @@
 -- The lexemes of a text are written for its tokens.
-use Rattle.std.proofs.Common.{◌≡◌, ◌≢◌, ◌⊎◌, inl, inr, ⊎_elim, ℕ, ◌<◌, ◌≤◌, Bool, true, false, cond, List, [], ◌∷◌, ◌++◌, length, Some, None, refl, sym, ◌∙◌, ap, subst, arith, append_assoc, append-nil, option_map}
+use Rattle.std.proofs.Common.{◌≡◌, ◌≢◌, ◌⊎◌, inl, inr, ⊎_elim, ℕ, ◌<◌, ◌≤◌, Bool, true, false, cond, List, [], ◌∷◌, ◌++◌, length, Some, None, refl, sym, ◌∙◌, ap, subst, arith, append_assoc}
+use Rattle.std.proofs.Common.{append-nil, option_map}
 use Rattle.std.specs.Prelude.{◌==◌, ◌&&◌, ◌||◌}
 use Rattle.std.specs.List.{list_all, AllByRecursion}
 use Rattle.std.specs.Char.{is_ascii_alphanumeric, is_ascii_alphabetic, digit_value}
@@ -198,7 +199,9 @@ word_first b w mode lexeme token after_none class h = between_no (class_of b) []
 word_first b w mode lexeme token (after_word _ _) class h = cc
 word_first b w mode lexeme token (after_mark _) class h = ap (λ c. continues Mark c lexeme b) class
 
-mark_first : (b : ℕ) (bs : List ℕ) (w : Bool) (mode : Mode) (lexeme : List ℕ) (token : Token) → After w mode lexeme token → class_of b ≡ OfMark → follows token (Sign (b ∷ bs)) ≡ true → continues mode (class_of b) lexeme b ≡ false
+mark_first : (b : ℕ) (bs : List ℕ) (w : Bool) (mode : Mode) (lexeme : List ℕ) (token : Token)
+    → After w mode lexeme token → class_of b ≡ OfMark → follows token (Sign (b ∷ bs)) ≡ true
+    → continues mode (class_of b) lexeme b ≡ false
 unfolding follows
 mark_first b bs w mode lexeme token after_none class h = between_no (class_of b) [] b
 mark_first b bs w mode lexeme token (after_word _ _) class h = ap (λ c. continues Word c lexeme b) class

@@ -23,13 +23,15 @@ use Rattle.vl_read.specs.inner.Places.NetKind.{OfPort, OfItem}
 use Rattle.vl_read.specs.declared.places.NetSpot.{NetSpot}
 use Rattle.vl_read.specs.declared.places.NetSpot.TheVariants.{Word, Signed, Ranged, Bound, Colon, Zero, Close, Named}
 use Rattle.vl_read.specs.inner.Places.AttrSpot.{AttrName, AttrSign, AttrValue, More}
-use Rattle.vl_read.specs.inner.Places.Place.{Start, Attributes, Title, Ports, Port as PortPlace, Net, AfterPort, AfterPorts, Items, AssignName, AssignSign, Head, ClockedName, ClockedSign, First, AfterFirst, Else, Branch, If, Again, NextSign, Expression, Semicolon, End, Done}
+use Rattle.vl_read.specs.inner.Places.Place.{Start, Attributes, Title, Ports, Port as PortPlace, Net, AfterPort, AfterPorts, Items, AssignName, AssignSign, Head, ClockedName, ClockedSign, First}
+use Rattle.vl_read.specs.inner.Places.Place.{AfterFirst, Else, Branch, If, Again, NextSign, Expression, Semicolon, End, Done}
 use Rattle.vl_read.specs.declared.places.Draft.{Draft}
 use Rattle.vl_read.specs.declared.places.HeadSpot.{HeadSpot}
 use Rattle.vl_read.specs.declared.places.HeadSpot.TheVariants.{Event}
 use Rattle.vl_read.specs.inner.Lexemes.{kind_of}
 use Rattle.vl_read.specs.inner.Turns.{feed}
-use Rattle.vl_read.specs.inner.Plain.{after_head, spot_at, expect_spot, attr_step, net_item, declared, net_step, compound_step, operand_step, unary_or_left, opened_step, braced_step, innermost, left_by, left_step, frame_step, goal_step, value_step, name_of, indexed, spot_step, item_step, step_at, step, start}
+use Rattle.vl_read.specs.inner.Plain.{after_head, spot_at, expect_spot, attr_step, net_item, declared, net_step, compound_step, operand_step, unary_or_left, opened_step, braced_step, innermost}
+use Rattle.vl_read.specs.inner.Plain.{left_by, left_step, frame_step, goal_step, value_step, name_of, indexed, spot_step, item_step, step_at, step, start}
 use Rattle.vl_read.specs.inner.LexemeSteps.{goes, expect, on_name, on_number, on_based}
 use Rattle.vl_ast.specs.Operators.{unary_of, infix_of, shift_of}
 use Rattle.vl_read.proofs.KindSound.{then_some, name_sound}
@@ -91,8 +93,12 @@ unfolding attr_step
 attr_lives draft of_port attrs AttrName kind lexeme = name_lives kind _ None (λ h. there draft (Attributes of_port attrs (AttrSign lexeme)) tt) stopped
 attr_lives draft of_port attrs (AttrSign name) kind lexeme = expect_lives _ lexeme draft (Attributes of_port attrs (AttrValue name)) tt
 attr_lives draft of_port attrs (AttrValue name) kind lexeme = number_lives kind _ (λ number. there draft (Attributes of_port (attrs ++ record { name = name; value = number } ∷ []) More) tt)
-attr_lives draft true attrs More kind lexeme = if_lives (bytes_eq lexeme (codes ",")) _ _ (there draft (Attributes true attrs AttrName) tt) (expect_lives (codes "*)") lexeme draft (PortPlace attrs) tt)
-attr_lives draft false attrs More kind lexeme = if_lives (bytes_eq lexeme (codes ",")) _ _ (there draft (Attributes false attrs AttrName) tt) (expect_lives (codes "*)") lexeme (record draft { attrs = attrs }) Start tt)
+attr_lives draft true attrs More kind lexeme =
+    if_lives (bytes_eq lexeme (codes ",")) _ _ (there draft (Attributes true attrs AttrName) tt)
+    (expect_lives (codes "*)") lexeme draft (PortPlace attrs) tt)
+attr_lives draft false attrs More kind lexeme =
+    if_lives (bytes_eq lexeme (codes ",")) _ _ (there draft (Attributes false attrs AttrName) tt)
+    (expect_lives (codes "*)") lexeme (record draft { attrs = attrs }) Start tt)
 
 declared_lives : (draft : Draft) (net : NetKind) (signed : Bool) (width : ℕ) (name : List ℕ) → Lives (declared draft net signed width name)
 unfolding declared
@@ -117,7 +123,8 @@ net_lives draft net (Named signed width) kind lexeme = name_lives kind _ None (�
 spot_there : (draft : Draft) (goal : Goal) (frames : List Frame) (spot : Spot) → IsLiveGoal goal → IsLiveSpot spot → Lives (spot_at draft goal frames spot)
 spot_there draft goal frames spot g h = there draft (Expression goal frames spot) (g, h)
 
-spot_expected : (byte : ℕ) (lexeme : List ℕ) (draft : Draft) (goal : Goal) (frames : List Frame) (spot : Spot) → IsLiveGoal goal → IsLiveSpot spot → Lives (expect_spot byte lexeme draft goal frames spot)
+spot_expected : (byte : ℕ) (lexeme : List ℕ) (draft : Draft) (goal : Goal) (frames : List Frame) (spot : Spot)
+    → IsLiveGoal goal → IsLiveSpot spot → Lives (expect_spot byte lexeme draft goal frames spot)
 spot_expected byte lexeme draft goal frames spot g h = expect_lives (byte ∷ []) lexeme draft (Expression goal frames spot) (g, h)
 
 compound_lives : (draft : Draft) (goal : Goal) (frames : List Frame) (lexeme : List ℕ) → IsLiveGoal goal → Lives (compound_step draft goal frames lexeme)
@@ -206,7 +213,9 @@ item_lives : (draft : Draft) (lexeme : List ℕ) → Lives (item_step draft lexe
 unfolding item_step
 item_lives draft lexeme =
     if_lives (bytes_eq lexeme (codes "wire")) _ _ (there draft (Net (OfItem false) Signed) tt)
-    (if_lives (bytes_eq lexeme (codes "reg")) _ _ (there draft (Net (OfItem true) Signed) tt) (if_lives (bytes_eq lexeme (codes "assign")) _ _ (there draft AssignName tt) (expect_lives (codes "always") lexeme draft (Head Event) tt)))
+    (if_lives (bytes_eq lexeme (codes "reg")) _ _ (there draft (Net (OfItem true) Signed) tt)
+    (if_lives (bytes_eq lexeme (codes "assign")) _ _ (there draft AssignName tt)
+    (expect_lives (codes "always") lexeme draft (Head Event) tt)))
 
 head_live : (at : HeadSpot) → IsLive (after_head at)
 head_live Event = tt

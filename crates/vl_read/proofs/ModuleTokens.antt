@@ -55,7 +55,8 @@ declaration_is word signed range n tokens = ap (λ t. Key word ∷ t) (regroup (
 -- assignments
 
 pub assign_is : (n : List ℕ) (e : Expr) (tokens : List Token) →
-    (Key (codes "assign") ∷ Identifier n ∷ Sign (codes "=") ∷ (expr_tokens e ++ Sign (codes ";") ∷ [])) ++ tokens ≡ Key (codes "assign") ∷ Identifier n ∷ Sign (codes "=") ∷ (expr_tokens e ++ Sign (codes ";") ∷ tokens)
+    (Key (codes "assign") ∷ Identifier n ∷ Sign (codes "=") ∷ (expr_tokens e ++ Sign (codes ";") ∷ [])) ++ tokens
+    ≡ Key (codes "assign") ∷ Identifier n ∷ Sign (codes "=") ∷ (expr_tokens e ++ Sign (codes ";") ∷ tokens)
 assign_is n e tokens = ap (λ t. Key (codes "assign") ∷ Identifier n ∷ Sign (codes "=") ∷ t) (append_assoc (expr_tokens e) (Sign (codes ";") ∷ []) tokens)
 
 -- items with a clock
@@ -76,7 +77,9 @@ always_tail condition n e tokens = condition_tokens condition ++ Identifier n �
 
 pub always_is : (n : List ℕ) (first : Sized) (condition : Option Expr) (e : Expr) (tokens : List Token) →
     always_tokens n first (always_tail condition n e []) ++ tokens ≡ always_tokens n first (always_tail condition n e tokens)
-always_is n first condition e tokens = ap (always_tokens n first) (append_assoc (condition_tokens condition) (Identifier n ∷ Sign (codes "<=") ∷ (expr_tokens e ++ Sign (codes ";") ∷ Key (codes "end") ∷ [])) tokens
+always_is n first condition e tokens =
+    ap (always_tokens n first) (append_assoc (condition_tokens condition)
+    (Identifier n ∷ Sign (codes "<=") ∷ (expr_tokens e ++ Sign (codes ";") ∷ Key (codes "end") ∷ [])) tokens
     ∙ ap (λ t. condition_tokens condition ++ Identifier n ∷ Sign (codes "<=") ∷ t) (append_assoc (expr_tokens e) (Sign (codes ";") ∷ Key (codes "end") ∷ []) tokens))
 
 pub condition_is : (e : Expr) (tokens : List Token) → condition_tokens (Some e) ++ tokens ≡ Key (codes "if") ∷ Sign (codes "(") ∷ (expr_tokens e ++ Sign (codes ")") ∷ tokens)

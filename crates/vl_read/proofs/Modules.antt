@@ -13,7 +13,8 @@ use Rattle.vl_read.specs.inner.Places.AttrSpot.{AttrName}
 use Rattle.vl_read.specs.inner.Places.Place.{Start, Attributes, Title, Ports, Port as PortPlace, AfterPort, AfterPorts, Items, Done}
 use Rattle.vl_read.specs.declared.places.Draft.{Draft}
 use Rattle.vl_read.specs.inner.Lexemes.{kind_of}
-use Rattle.vl_read.specs.inner.Plain.{step, parse, start, goal_step, declared, item_step, attr_step, net_step, compound_step, operand_step, unary_or_left, opened_step, braced_step, left_step, frame_step, spot_step, step_at}
+use Rattle.vl_read.specs.inner.Plain.{step, parse, start, goal_step, declared, item_step, attr_step, net_step, compound_step, operand_step, unary_or_left, opened_step, braced_step, left_step}
+use Rattle.vl_read.specs.inner.Plain.{frame_step, spot_step, step_at}
 use Rattle.vl_read.specs.inner.LexemeSteps.{parser_at}
 use Rattle.vl_read.proofs.TokenReader.{Writes, Reads, writes_as, next, sign, key, name}
 use Rattle.vl_read.proofs.PortReader.{attrs_read, with_port, port_read, ports_read}
@@ -57,7 +58,8 @@ start_read (attr ∷ attrs) most tokens lexemes w =
     next _ (parser_at (empty most) (Attributes false [] AttrName)) _ lexemes _ tokens (sign _ _ lexemes (codes "(*") _ (module_attrs (empty most) refl) w)
     (λ l1 w1. attrs_read attr attrs (empty most) false tokens l1 w1)
 
-all_ports_read : (ports : List Port) (written : List (List Token)) → ports ≢ [] → AllZip IsPortText ports written → (draft : Draft) → draft.ports ≡ [] → (tokens : List Token) (lexemes : List (List ℕ)) →
+all_ports_read : (ports : List Port) (written : List (List Token)) → ports ≢ [] → AllZip IsPortText ports written
+    → (draft : Draft) → draft.ports ≡ [] → (tokens : List Token) (lexemes : List (List ℕ)) →
     Writes (joined comma written ++ tokens) lexemes → Reads (parser_at draft (PortPlace [])) lexemes (parser_at (record draft { ports = ports }) AfterPort) tokens
 all_ports_read [] written some all draft none tokens lexemes w = absurd (some refl)
 all_ports_read (port ∷ ports) [] some all draft none tokens lexemes w = absurd all

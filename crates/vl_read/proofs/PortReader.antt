@@ -14,18 +14,23 @@ use Rattle.vl_read.specs.inner.Places.AttrSpot.{AttrName, AttrSign, AttrValue, M
 use Rattle.vl_read.specs.inner.Places.Place.{Start, Attributes, Port as PortPlace, Net, AfterPort, Semicolon}
 use Rattle.vl_read.specs.declared.places.Draft.{Draft}
 use Rattle.vl_read.specs.inner.Lexemes.{kind_of, dec_of, sized_of}
-use Rattle.vl_read.specs.inner.Plain.{step, parse, goal_step, net_item, declared, item_step, attr_step, net_step, compound_step, operand_step, unary_or_left, opened_step, braced_step, left_step, frame_step, spot_step, step_at}
+use Rattle.vl_read.specs.inner.Plain.{step, parse, goal_step, net_item, declared, item_step, attr_step, net_step, compound_step, operand_step, unary_or_left, opened_step, braced_step, left_step}
+use Rattle.vl_read.specs.inner.Plain.{frame_step, spot_step, step_at}
 use Rattle.vl_read.specs.inner.LexemeSteps.{parser_at}
 use Rattle.vl_read.proofs.TokenReader.{Writes, Reads, writes_as, next, sign, key, name, number}
 use Rattle.vl_read.proofs.ModuleTokens.{more_attrs, attrs_rest, direction, port_text, port_words, port_is}
 
 -- attributes
 
-attr_named : (draft : Draft) (of_port : Bool) (done : List Attr) (n : List ℕ) → kind_of n ≡ Name → step (parser_at draft (Attributes of_port done AttrName)) n ≡ Some (parser_at draft (Attributes of_port done (AttrSign n)))
+attr_named : (draft : Draft) (of_port : Bool) (done : List Attr) (n : List ℕ) → kind_of n ≡ Name
+    → step (parser_at draft (Attributes of_port done AttrName)) n
+    ≡ Some (parser_at draft (Attributes of_port done (AttrSign n)))
 unfolding step attr_step declared net_step compound_step operand_step unary_or_left opened_step braced_step left_step frame_step goal_step spot_step item_step step_at
 attr_named draft of_port done n h = rw h
 
-attr_signed : (draft : Draft) (of_port : Bool) (done : List Attr) (n : List ℕ) → step (parser_at draft (Attributes of_port done (AttrSign n))) (codes "=") ≡ Some (parser_at draft (Attributes of_port done (AttrValue n)))
+attr_signed : (draft : Draft) (of_port : Bool) (done : List Attr) (n : List ℕ)
+    → step (parser_at draft (Attributes of_port done (AttrSign n))) (codes "=")
+    ≡ Some (parser_at draft (Attributes of_port done (AttrValue n)))
 unfolding step attr_step declared net_step compound_step operand_step unary_or_left opened_step braced_step left_step frame_step goal_step spot_step item_step step_at
 attr_signed draft of_port done n = refl
 
@@ -47,7 +52,9 @@ unfolding step attr_step declared net_step compound_step operand_step unary_or_l
 attr_close draft true done = refl
 attr_close draft false done = refl
 
-attr_read : (attr : Attr) (draft : Draft) (of_port : Bool) (done : List Attr) (tokens : List Token) (lexemes : List (List ℕ)) → Writes (Identifier attr.name ∷ Sign (codes "=") ∷ Number attr.value ∷ tokens) lexemes →
+attr_read : (attr : Attr) (draft : Draft) (of_port : Bool) (done : List Attr) (tokens : List Token)
+    (lexemes : List (List ℕ))
+    → Writes (Identifier attr.name ∷ Sign (codes "=") ∷ Number attr.value ∷ tokens) lexemes →
     Reads (parser_at draft (Attributes of_port done AttrName)) lexemes (parser_at draft (Attributes of_port (done ++ attr ∷ []) More)) tokens
 attr_read attr draft of_port done tokens lexemes w =
     next _ (parser_at draft (Attributes of_port done (AttrSign attr.name))) _ lexemes _ tokens (name _ _ lexemes attr.name _ (attr_named draft of_port done attr.name) w)
@@ -57,7 +64,8 @@ attr_read attr draft of_port done tokens lexemes w =
 more_attrs_read : (attrs : List Attr) (draft : Draft) (of_port : Bool) (done : List Attr) (tokens : List Token) (lexemes : List (List ℕ)) → Writes (more_attrs attrs tokens) lexemes →
     Reads (parser_at draft (Attributes of_port done More)) lexemes (after_attrs draft of_port (done ++ attrs)) tokens
 more_attrs_read [] draft of_port done tokens lexemes w =
-    subst (λ d. Reads (parser_at draft (Attributes of_port done More)) lexemes (after_attrs draft of_port d) tokens) (sym (append-nil done)) (sign _ _ lexemes (codes "*)") tokens (attr_close draft of_port done) w)
+    subst (λ d. Reads (parser_at draft (Attributes of_port done More)) lexemes (after_attrs draft of_port d) tokens)
+    (sym (append-nil done)) (sign _ _ lexemes (codes "*)") tokens (attr_close draft of_port done) w)
 more_attrs_read (attr ∷ attrs) draft of_port done tokens lexemes w =
     next _ (parser_at draft (Attributes of_port done AttrName)) _ lexemes _ tokens (sign _ _ lexemes (codes ",") _ (attr_more draft of_port done) w)
     (λ l1 w1. next _ (parser_at draft (Attributes of_port (done ++ attr ∷ []) More)) _ l1 _ tokens (attr_read attr draft of_port done _ l1 w1)
@@ -122,7 +130,8 @@ close_step : (draft : Draft) (net : NetKind) (signed : Bool) (width : ℕ) → s
 unfolding step attr_step declared net_step compound_step operand_step unary_or_left opened_step braced_step left_step frame_step goal_step spot_step item_step step_at
 close_step draft net signed width = refl
 
-named_step : (draft : Draft) (net : NetKind) (signed : Bool) (width : ℕ) (n : List ℕ) → kind_of n ≡ Name → step (parser_at draft (Net net (Named signed width))) n ≡ Some (declared_at draft net signed width n)
+named_step : (draft : Draft) (net : NetKind) (signed : Bool) (width : ℕ) (n : List ℕ) → kind_of n ≡ Name
+    → step (parser_at draft (Net net (Named signed width))) n ≡ Some (declared_at draft net signed width n)
 unfolding step attr_step declared net_step compound_step operand_step unary_or_left opened_step braced_step left_step frame_step goal_step spot_step item_step step_at
 named_step draft net signed width n h = rw h (declared_is draft net signed width n)
 
@@ -150,12 +159,16 @@ net_read draft net false width range n tokens lexemes (inr h) w =
     next _ (parser_at draft (Net net (Bound false))) _ lexemes _ tokens (sign _ _ lexemes (codes "[") _ (plain_range draft net) w')
     (λ l1 w1. range_read draft net false width n tokens l1 h.0 w1)
 net_read draft net true width range n tokens lexemes (inl h) w =
-    let w' = writes_as (Key (codes "signed") ∷ (range ++ Identifier n ∷ tokens)) (Key (codes "signed") ∷ Identifier n ∷ tokens) lexemes (ap (λ r. Key (codes "signed") ∷ (r ++ Identifier n ∷ tokens)) h.1) w in
+    let w' = writes_as (Key (codes "signed") ∷ (range ++ Identifier n ∷ tokens))
+    (Key (codes "signed") ∷ Identifier n ∷ tokens) lexemes
+    (ap (λ r. Key (codes "signed") ∷ (r ++ Identifier n ∷ tokens)) h.1) w in
     subst (λ v. Reads (parser_at draft (Net net Signed)) lexemes (declared_at draft net true v n) tokens) (sym h.0)
     (next _ (parser_at draft (Net net (Ranged true))) _ lexemes _ tokens (key _ _ lexemes (codes "signed") _ (signed_word draft net) w')
     (λ l1 w1. name _ _ l1 n tokens (ranged_name draft net true n) w1))
 net_read draft net true width range n tokens lexemes (inr h) w =
-    let w' = writes_as (Key (codes "signed") ∷ (range ++ Identifier n ∷ tokens)) (Key (codes "signed") ∷ (range_tokens width ++ Identifier n ∷ tokens)) lexemes (ap (λ r. Key (codes "signed") ∷ (r ++ Identifier n ∷ tokens)) h.1) w in
+    let w' = writes_as (Key (codes "signed") ∷ (range ++ Identifier n ∷ tokens))
+    (Key (codes "signed") ∷ (range_tokens width ++ Identifier n ∷ tokens)) lexemes
+    (ap (λ r. Key (codes "signed") ∷ (r ++ Identifier n ∷ tokens)) h.1) w in
     next _ (parser_at draft (Net net (Ranged true))) _ lexemes _ tokens (key _ _ lexemes (codes "signed") _ (signed_word draft net) w')
     (λ l1 w1. next _ (parser_at draft (Net net (Bound true))) _ l1 _ tokens (sign _ _ l1 (codes "[") _ (ranged_range draft net true) w1)
     (λ l2 w2. range_read draft net true width n tokens l2 h.0 w2))

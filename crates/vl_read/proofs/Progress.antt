@@ -45,7 +45,10 @@ module _ (bytes : List ℕ) (parser : Parser) (mode : Mode) (start : ℕ) (reach
   module _ (to : Mode) (leads : Some to ≡ mode_after mode (get_or bytes start 0)) where
     begun : ReachedAt bytes parser to (begun_with to (get_or bytes start 0)) (start + 1)
     begun =
-        let moves : Some (silently to (begun_with to (get_or bytes start 0))) ≡ move mode [] (get_or bytes start 0) = ap (option_map (λ to. silently to (begun_with to (get_or bytes start 0)))) leads ∙ turn_is mode (get_or bytes start 0) beyond in
+        let moves : Some (silently to (begun_with to (get_or bytes start 0)))
+        ≡ move mode [] (get_or bytes start 0) =
+        ap (option_map (λ to. silently to (begun_with to (get_or bytes start 0)))) leads
+        ∙ turn_is mode (get_or bytes start 0) beyond in
         reached_next _ _ _ _ _ _ reached _ _ (drop_next bytes start inside) to (begun_with to (get_or bytes start 0)) moves _ (line_next bytes start inside)
 
     -- a byte of a gap
@@ -59,8 +62,12 @@ module _ (bytes : List ℕ) (parser : Parser) (mode : Mode) (start : ℕ) (reach
       longer place end next low past goes before =
           let here : place < length bytes = omega (arith, next, past) in
           let from : start ≤ place = omega (arith, low) in
-          let moves : Some (silently to (between start place bytes ++ get_or bytes place 0 ∷ [])) ≡ move to (between start place bytes) (get_or bytes place 0) = grows to (between start place bytes) (get_or bytes place 0) within goes in
-          let after : ReachedAt bytes parser to (between start place bytes ++ get_or bytes place 0 ∷ []) (place + 1) = reached_next _ _ _ _ _ _ before _ _ (drop_next bytes place here) to _ moves _ (line_next bytes place here) in
+          let moves : Some (silently to (between start place bytes ++ get_or bytes place 0 ∷ []))
+          ≡ move to (between start place bytes) (get_or bytes place 0) =
+          grows to (between start place bytes) (get_or bytes place 0) within goes in
+          let after : ReachedAt bytes parser to (between start place bytes ++ get_or bytes place 0 ∷ [])
+          (place + 1) = reached_next _ _ _ _ _ _ before _ _ (drop_next bytes place here) to _ moves _
+          (line_next bytes place here) in
           subst (λ p. ReachedAt bytes parser to (between start p bytes) p) next
           (subst (λ l. ReachedAt bytes parser to l (place + 1)) (sym (kept_next bytes start place from here)) after)
 

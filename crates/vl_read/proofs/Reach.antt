@@ -1,5 +1,6 @@
 -- How far a text was read, what that says of it, and where it stops.
-use Rattle.std.proofs.Common.{◌≡◌, ℕ, ◌+◌, ◌≤◌, Bool, true, false, cond, not, List, [], ◌∷◌, ◌++◌, ◌⊎◌, inl, inr, length, count_by, Some, None, refl, sym, ◌∙◌, ap, subst, append_assoc, append-nil, arith, length-append, option_and_then}
+use Rattle.std.proofs.Common.{◌≡◌, ℕ, ◌+◌, ◌≤◌, Bool, true, false, cond, not, List, [], ◌∷◌, ◌++◌, ◌⊎◌, inl, inr, length, count_by, Some, None, refl, sym, ◌∙◌, ap, subst, append_assoc, append-nil}
+use Rattle.std.proofs.Common.{arith, length-append, option_and_then}
 use Rattle.std.specs.Prelude.{◌==◌}
 use Rattle.std.specs.List.{list_all}
 use Rattle.std.proofs.lemmas.Bool.{and_from, eqb-true}
@@ -91,7 +92,14 @@ first_line (b ∷ bs) = of (b == 10) refl (first_line bs)
 module _ (bytes rest : List ℕ) (parser : Parser) (mode : Mode) (lexeme : List ℕ) (line : ℕ) (reached : Reached bytes rest parser mode lexeme line) where
   -- the line is not past the bytes before it
   pub line_within : line + length rest ≤ 1 + length bytes
-  line_within = omega (arith, reached.number, count_by-le-length newline reached.before, ap length reached.whole, length-append (reached.before ++ reached.here) rest, length-append reached.before reached.here)
+  line_within = omega (
+    arith,
+    reached.number,
+    count_by-le-length newline reached.before,
+    ap length reached.whole,
+    length-append (reached.before ++ reached.here) rest,
+    length-append reached.before reached.here,
+  )
 
   pub reads_all : reading most_items bytes ≡ ahead parser mode lexeme rest
   reads_all = ap (reading most_items) reached.whole ∙ reached.reads rest (alike_itself rest)
@@ -125,7 +133,9 @@ module _ (bytes rest : List ℕ) (parser : Parser) (mode : Mode) (lexeme : List 
         let both : None ≡ Some text.0 = sym (reached.reads (byte ∷ more) (alike more) ∙ none more) ∙ complete ((reached.before ++ reached.here) ++ byte ∷ more) text.0 most_items text.1 text.2 in
         absurd cc
 
-    line_stops : ((more : List ℕ) → ahead parser mode lexeme (byte ∷ more) ≡ None) → IsOneLine (byte ∷ after) ⊎ ((line more : List ℕ) × IsOneLine line × (byte ∷ after ≡ line ++ 10 ∷ more)) → Stops IsVerilog reached.before (reached.here ++ byte ∷ after)
+    line_stops : ((more : List ℕ) → ahead parser mode lexeme (byte ∷ more) ≡ None)
+        → IsOneLine (byte ∷ after) ⊎ ((line more : List ℕ) × IsOneLine line × (byte ∷ after ≡ line ++ 10 ∷ more))
+        → Stops IsVerilog reached.before (reached.here ++ byte ∷ after)
     line_stops none (inl one) = inl (line_join reached.here (byte ∷ after) reached.one one)
     line_stops none (inr ([], more, one, e)) = inr (
       reached.here,
@@ -137,7 +147,9 @@ module _ (bytes rest : List ℕ) (parser : Parser) (mode : Mode) (lexeme : List 
     )
       where
         at_newline : (tail : List ℕ) → (reached.before ++ (reached.here ++ 10 ∷ [])) ++ tail ≡ (reached.before ++ reached.here) ++ byte ∷ tail
-        at_newline tail = let same : byte ≡ 10 = cc in subst (λ b. (reached.before ++ (reached.here ++ 10 ∷ [])) ++ tail ≡ (reached.before ++ reached.here) ++ b ∷ tail) (sym same) (simp append_assoc refl)
+        at_newline tail = let same : byte ≡ 10 = cc in
+            subst (λ b. (reached.before ++ (reached.here ++ 10 ∷ [])) ++ tail
+            ≡ (reached.before ++ reached.here) ++ b ∷ tail) (sym same) (simp append_assoc refl)
     line_stops none (inr (b ∷ line, more, one, e)) = inr (
       reached.here ++ b ∷ line,
       more,
@@ -148,7 +160,10 @@ module _ (bytes rest : List ℕ) (parser : Parser) (mode : Mode) (lexeme : List 
     )
       where
         past_newline : (tail : List ℕ) → (reached.before ++ ((reached.here ++ b ∷ line) ++ 10 ∷ [])) ++ tail ≡ (reached.before ++ reached.here) ++ byte ∷ ((line ++ 10 ∷ []) ++ tail)
-        past_newline tail = let same : byte ≡ b = cc in subst (λ x. (reached.before ++ ((reached.here ++ b ∷ line) ++ 10 ∷ [])) ++ tail ≡ (reached.before ++ reached.here) ++ x ∷ ((line ++ 10 ∷ []) ++ tail)) (sym same) (simp append_assoc refl)
+        past_newline tail = let same : byte ≡ b = cc in
+            subst (λ x. (reached.before ++ ((reached.here ++ b ∷ line) ++ 10 ∷ [])) ++ tail
+            ≡ (reached.before ++ reached.here) ++ x ∷ ((line ++ 10 ∷ []) ++ tail)) (sym same)
+            (simp append_assoc refl)
 
     -- the line has a fault, where nothing goes on with the byte
     fault_here : ((more : List ℕ) → ahead parser mode lexeme (byte ∷ more) ≡ None) → IsVerilogFaultLine bytes line
@@ -198,7 +213,9 @@ module _ (bytes rest : List ℕ) (parser : Parser) (mode : Mode) (lexeme : List 
           let same : byte ≡ 10 = eqb-true byte 10 newline_is in
           let ends = line_end mode lexeme (silently to then) (ap (move mode lexeme) (sym same) ∙ sym moves) in
           let front : List ℕ = reached.before ++ reached.here in
-          let goes_on : ((more : List ℕ) → reading most_items ((front ++ byte ∷ []) ++ more) ≡ ahead parser to then more) = λ more. ap (reading most_items) (append_assoc front (byte ∷ []) more) ∙ reads_next more in
+          let goes_on : ((more : List ℕ) → reading most_items ((front ++ byte ∷ []) ++ more)
+          ≡ ahead parser to then more) = λ more. ap (reading most_items) (append_assoc front (byte ∷ []) more)
+          ∙ reads_next more in
           record {
             before = front ++ byte ∷ [];
             here = [];
@@ -235,7 +252,9 @@ module _ (bytes rest : List ℕ) (parser : Parser) (mode : Mode) (lexeme : List 
       where
         of : (left : List ℕ) → rest ≡ left → IsVerilogFaultLine bytes line
         of [] is = fault_at_end is
-        of (byte ∷ after) is = fault_here byte after is (λ more. ahead_ended parser mode lexeme (byte ∷ more) within (subst (Quits mode lexeme) is quits) ∙ ap (option_and_then (λ q. ahead q Between [] (byte ∷ more))) (sym e))
+        of (byte ∷ after) is = fault_here byte after is
+            (λ more. ahead_ended parser mode lexeme (byte ∷ more) within (subst (Quits mode lexeme) is quits)
+            ∙ ap (option_and_then (λ q. ahead q Between [] (byte ∷ more))) (sym e))
 
     quits_alike : (left more : List ℕ) → Quits mode lexeme left → Alike left more → Quits mode lexeme more
     quits_alike [] more is like = subst (Quits mode lexeme) (sym like) tt

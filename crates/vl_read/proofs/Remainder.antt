@@ -1,5 +1,6 @@
 -- What is left of a text gives the module of the whole.
-use Rattle.std.proofs.Common.{◌≡◌, ℕ, ◌+◌, ◌<◌, Bool, true, false, cond, List, [], ◌∷◌, ◌++◌, length, drop, get_or, drop-cons, add-one, Option, Some, None, refl, sym, ◌∙◌, ap, option_and_then, option_map}
+use Rattle.std.proofs.Common.{◌≡◌, ℕ, ◌+◌, ◌<◌, Bool, true, false, cond, List, [], ◌∷◌, ◌++◌, length, drop, get_or, drop-cons, add-one, Option, Some, None, refl, sym, ◌∙◌, ap, option_and_then}
+use Rattle.std.proofs.Common.{option_map}
 use Rattle.std.specs.Prelude.{⊤, ◌==◌}
 use Rattle.vl_read.specs.declared.scan.ByteClass.{ByteClass}
 use Rattle.vl_read.specs.declared.scan.ByteClass.TheVariants.{OfWord, OfBlank, OfComment, OfMark, OfNone}
@@ -41,7 +42,9 @@ none_then : (o : Option Parser) → option_and_then (λ (q : Parser). option_and
 none_then None = refl
 none_then (Some q) = refl
 
-ahead_feed : (ls : List (List ℕ)) (p : Parser) (o : Option (List (List ℕ))) → option_and_then (parse p) (option_map (λ more. ls ++ more) o) ≡ option_and_then (λ q. option_and_then (parse q) o) (feed p ls)
+ahead_feed : (ls : List (List ℕ)) (p : Parser) (o : Option (List (List ℕ)))
+    → option_and_then (parse p) (option_map (λ more. ls ++ more) o)
+    ≡ option_and_then (λ q. option_and_then (parse q) o) (feed p ls)
 ahead_feed ls p None = sym (none_then (feed p ls))
 ahead_feed ls p (Some more) = parse_feed ls more p
 

@@ -20,7 +20,8 @@ use Rattle.vl_read.specs.inner.Lexemes.{class_of, extends}
 use Rattle.vl_read.proofs.Layers.{by_forms}
 use Rattle.vl_read.proofs.Safe.{is_key, is_fine, follows, safe}
 use Rattle.vl_read.proofs.FormTokens.{layer_tokens, unary_tokens, binary_tokens, shift_tokens, choose_tokens, as_signed_tokens, as_unsigned_tokens, repeat_tokens, more_tokens, concat_tokens}
-use Rattle.vl_read.proofs.SafeMarks.{fine_first, opens, after_closing, never, after_mark, closes_identifier, closes_key, closes_number, closes_based, begun, opens_word, follows_identifier, follows_key, follows_based, opens_open, opens_brace, fine_open, fine_brace, mark_opens, round_ends, brace_ends}
+use Rattle.vl_read.proofs.SafeMarks.{fine_first, opens, after_closing, never, after_mark, closes_identifier, closes_key, closes_number, closes_based, begun, opens_word, follows_identifier}
+use Rattle.vl_read.proofs.SafeMarks.{follows_key, follows_based, opens_open, opens_brace, fine_open, fine_brace, mark_opens, round_ends, brace_ends}
 
 -- an expression may stand after what lets it follow, and before any token that is fine
 abbrev pub IsSafe : Expr → Type 0
@@ -70,7 +71,8 @@ part_safe : (n : List ℕ) (high low : ℕ) → IsSafe (roll-Expr (Expr-F.Part n
 unfolding follows extends is_fine class_of
 part_safe n high low before tokens opening after =
     layer_safe_as (Expr-F.Part n high low) tokens (Identifier n ∷ Sign (codes "[") ∷ Number high ∷ Sign (codes ":") ∷ Number low ∷ Sign (codes "]") ∷ tokens) before refl
-    (begun before (Identifier n) (Sign (codes "[") ∷ Number high ∷ Sign (codes ":") ∷ Number low ∷ Sign (codes "]") ∷ tokens) (follows_identifier before n) refl (after_mark (codes "]") tokens never after))
+    (begun before (Identifier n) (Sign (codes "[") ∷ Number high ∷ Sign (codes ":") ∷ Number low ∷ Sign (codes "]")
+    ∷ tokens) (follows_identifier before n) refl (after_mark (codes "]") tokens never after))
 
 literal_safe : (n : Sized) → IsSafe (roll-Expr (Expr-F.Literal n))
 unfolding is_fine

@@ -26,9 +26,14 @@ Closes before = (next : Token) → follows before next ≡ true
 
 pub after_closing : (before : Token) (tokens : List Token) → Closes before → fine_first tokens ≡ true → safe before tokens ≡ true
 after_closing before [] closes h = refl
-after_closing before (token ∷ tokens) closes h = let parts = and_parts (is_fine token) (safe token tokens) h in and_from (follows before token && is_fine token) (safe token tokens) (and_from _ _ (closes token) parts.0) parts.1
+after_closing before (token ∷ tokens) closes h = let parts = and_parts (is_fine token) (safe token tokens) h in
+    and_from (follows before token && is_fine token) (safe token tokens)
+    (and_from _ _ (closes token) parts.0) parts.1
 
-pub never : (byte : ℕ) → cond (byte == 42) false (cond (byte == 41) false (cond (byte == 61) false (cond (byte == 60) false (cond (byte == 62) false (cond (byte == 38) false (cond (byte == 124) false false)))))) ≡ false
+pub never : (byte : ℕ) → cond (byte == 42) false
+    (cond (byte == 41) false (cond (byte == 61) false
+    (cond (byte == 60) false
+    (cond (byte == 62) false (cond (byte == 38) false (cond (byte == 124) false false)))))) ≡ false
 never byte = simp same_cond
 
 -- what no byte goes on with

@@ -72,7 +72,10 @@ attributed_is port range tokens = append_assoc (attrs_tokens port.attrs) (port_t
 words_fine : (port : Port) (range tokens : List Token) → IsRange port.width range → fine_first tokens ≡ true → fine_first (port_words port range tokens) ≡ true
 unfolding class_of
 words_fine port range tokens is h =
-    key_fine (direction port.input) (Key (codes "wire") ∷ (signed_tokens port.signed ++ ◌++◌ {A = Token} range (Identifier port.name ∷ tokens))) (fine_direction port.input) (key_fine (codes "wire") _ refl (net_fine port.signed port.width range port.name tokens is h))
+    key_fine (direction port.input) (Key (codes "wire")
+    ∷ (signed_tokens port.signed ++ ◌++◌ {A = Token} range (Identifier port.name ∷ tokens)))
+    (fine_direction port.input)
+    (key_fine (codes "wire") _ refl (net_fine port.signed port.width range port.name tokens is h))
 
 port_fine : (port : Port) (written tokens : List Token) → IsPortText port written → fine_first tokens ≡ true → fine_first (written ++ tokens) ≡ true
 port_fine port written tokens is h =
@@ -82,16 +85,23 @@ follows_attrs : follows (Sign (codes "(")) (Sign (codes "(*")) ≡ true
 unfolding follows extends
 follows_attrs = refl
 
-after_open : (attrs : List Attr) (word : List ℕ) (tokens : List Token) → fine_first (attrs_tokens attrs ++ Key word ∷ tokens) ≡ true → safe (Sign (codes "(")) (attrs_tokens attrs ++ Key word ∷ tokens) ≡ true
+after_open : (attrs : List Attr) (word : List ℕ) (tokens : List Token)
+    → fine_first (attrs_tokens attrs ++ Key word ∷ tokens) ≡ true
+    → safe (Sign (codes "(")) (attrs_tokens attrs ++ Key word ∷ tokens) ≡ true
 after_open [] word tokens h = let parts = and_parts _ _ h in begun (Sign (codes "(")) (Key word) tokens (follows_key (Sign (codes "(")) word) parts.0 parts.1
-after_open (attr ∷ attrs) word tokens h = let parts = and_parts _ _ h in begun (Sign (codes "(")) (Sign (codes "(*")) (joined comma (map attr_tokens (attr ∷ attrs)) ++ Sign (codes "*)") ∷ [] ++ Key word ∷ tokens) follows_attrs parts.0 parts.1
+after_open (attr ∷ attrs) word tokens h = let parts = and_parts _ _ h in
+    begun (Sign (codes "(")) (Sign (codes "(*"))
+    (joined comma (map attr_tokens (attr ∷ attrs)) ++ Sign (codes "*)") ∷ [] ++ Key word ∷ tokens) follows_attrs
+    parts.0 parts.1
 
 first_port_safe : (port : Port) (written tokens : List Token) → IsPortText port written → fine_first tokens ≡ true → safe (Sign (codes "(")) (written ++ tokens) ≡ true
 first_port_safe port written tokens is h =
     ap (safe (Sign (codes "("))) (ap (λ t. t ++ tokens) is.2 ∙ attributed_is port is.0 tokens)
     ∙ after_open port.attrs (direction port.input) _ (attrs_fine port.attrs _ (words_fine port is.0 tokens is.1 h))
 
-more_ports_fine : (ports : List Port) (written : List (List Token)) (tokens : List Token) → AllZip IsPortText ports written → fine_first tokens ≡ true → fine_first (flat_map (λ more. comma ++ more) written ++ tokens) ≡ true
+more_ports_fine : (ports : List Port) (written : List (List Token)) (tokens : List Token)
+    → AllZip IsPortText ports written → fine_first tokens ≡ true
+    → fine_first (flat_map (λ more. comma ++ more) written ++ tokens) ≡ true
 unfolding class_of extends
 more_ports_fine [] [] tokens all h = h
 more_ports_fine [] (text ∷ written) tokens all h = absurd all
@@ -100,7 +110,9 @@ more_ports_fine (port ∷ ports) (text ∷ written) tokens all h =
     ap (λ t. fine_first (Sign (codes ",") ∷ t)) (append_assoc text (flat_map (λ more. comma ++ more) written) tokens)
     ∙ and_from _ _ (and_parts _ _ (mark_opens (codes ",") refl)).0 (after_mark (codes ",") _ never (port_fine port text _ all.0 (more_ports_fine ports written tokens all.1 h)))
 
-ports_safe : (ports : List Port) (written : List (List Token)) (tokens : List Token) → ports ≢ [] → AllZip IsPortText ports written → fine_first tokens ≡ true → safe (Sign (codes "(")) (joined comma written ++ tokens) ≡ true
+ports_safe : (ports : List Port) (written : List (List Token)) (tokens : List Token) → ports ≢ []
+    → AllZip IsPortText ports written → fine_first tokens ≡ true
+    → safe (Sign (codes "(")) (joined comma written ++ tokens) ≡ true
 ports_safe [] written tokens some all h = absurd (some refl)
 ports_safe (port ∷ ports) [] tokens some all h = absurd all
 ports_safe (port ∷ ports) (text ∷ written) tokens some all h =
@@ -119,12 +131,17 @@ net_item_fine word fine signed width range n written tokens is same h =
     ap fine_first (ap (λ t. t ++ tokens) same ∙ declaration_is word signed range n tokens)
     ∙ key_fine word _ fine (net_fine signed width range n _ is (semicolon_fine tokens h))
 
-assign_fine : (n : List ℕ) (e : Expr) (written tokens : List Token) → written ≡ Key (codes "assign") ∷ Identifier n ∷ Sign (codes "=") ∷ (expr_tokens e ++ Sign (codes ";") ∷ []) → fine_first tokens ≡ true → fine_first (written ++ tokens) ≡ true
+assign_fine : (n : List ℕ) (e : Expr) (written tokens : List Token)
+    → written ≡ Key (codes "assign") ∷ Identifier n ∷ Sign (codes "=") ∷ (expr_tokens e ++ Sign (codes ";") ∷ [])
+    → fine_first tokens ≡ true → fine_first (written ++ tokens) ≡ true
 unfolding class_of extends
 assign_fine n e written tokens same h =
     let f = and_parts _ _ (mark_opens (codes "=") refl) in
     ap fine_first (ap (λ t. t ++ tokens) same ∙ assign_is n e tokens)
-    ∙ key_fine (codes "assign") (Identifier n ∷ Sign (codes "=") ∷ (expr_tokens e ++ Sign (codes ";") ∷ tokens)) refl (name_fine n (Sign (codes "=") ∷ (expr_tokens e ++ Sign (codes ";") ∷ tokens)) (and_from _ _ f.0 (expr_safe e (Sign (codes "=")) (Sign (codes ";") ∷ tokens) f.1 (semicolon_fine tokens h))))
+    ∙ key_fine (codes "assign") (Identifier n ∷ Sign (codes "=") ∷ (expr_tokens e ++ Sign (codes ";") ∷ tokens))
+    refl (name_fine n (Sign (codes "=") ∷ (expr_tokens e ++ Sign (codes ";") ∷ tokens))
+    (and_from _ _ f.0
+    (expr_safe e (Sign (codes "=")) (Sign (codes ";") ∷ tokens) f.1 (semicolon_fine tokens h))))
 
 open_fine : (tokens : List Token) → safe (Sign (codes "(")) tokens ≡ true → fine_first (Sign (codes "(") ∷ tokens) ≡ true
 open_fine tokens h = and_from _ _ fine_open h
@@ -134,18 +151,24 @@ unfolding class_of
 condition_fine None tokens h = h
 condition_fine (Some e) tokens h =
     ap fine_first (condition_is e tokens)
-    ∙ key_fine (codes "if") (Sign (codes "(") ∷ (expr_tokens e ++ Sign (codes ")") ∷ tokens)) refl (open_fine _ (expr_safe e (Sign (codes "(")) (Sign (codes ")") ∷ tokens) opens_open (round_ends tokens h)))
+    ∙ key_fine (codes "if") (Sign (codes "(") ∷ (expr_tokens e ++ Sign (codes ")") ∷ tokens)) refl
+    (open_fine _ (expr_safe e (Sign (codes "(")) (Sign (codes ")") ∷ tokens) opens_open (round_ends tokens h)))
 
 clocked_fine : (n : List ℕ) (first : Sized) (tokens : List Token) → fine_first tokens ≡ true → fine_first (always_tokens n first tokens) ≡ true
 unfolding follows extends is_fine class_of
 clocked_fine n first tokens h = after_closing (Key (codes "else")) tokens (closes_key (codes "else")) h
 
-always_fine : (n : List ℕ) (first : Sized) (condition : Option Expr) (e : Expr) (written tokens : List Token) → IsItemText (Always n first condition e) written → fine_first tokens ≡ true → fine_first (written ++ tokens) ≡ true
+always_fine : (n : List ℕ) (first : Sized) (condition : Option Expr) (e : Expr) (written tokens : List Token)
+    → IsItemText (Always n first condition e) written → fine_first tokens ≡ true
+    → fine_first (written ++ tokens) ≡ true
 unfolding class_of extends
 always_fine n first condition e written tokens is h =
     let f = and_parts _ _ (mark_opens (codes "<=") refl) in
     ap fine_first (ap (λ t. t ++ tokens) is.2 ∙ always_is n first condition e tokens)
-    ∙ clocked_fine n first _ (condition_fine condition _ (name_fine n (Sign (codes "<=") ∷ (expr_tokens e ++ Sign (codes ";") ∷ Key (codes "end") ∷ tokens)) (and_from _ _ f.0 (expr_safe e (Sign (codes "<=")) (Sign (codes ";") ∷ Key (codes "end") ∷ tokens) f.1 (semicolon_fine (Key (codes "end") ∷ tokens) (key_fine (codes "end") tokens refl h))))))
+    ∙ clocked_fine n first _ (condition_fine condition _
+    (name_fine n (Sign (codes "<=") ∷ (expr_tokens e ++ Sign (codes ";") ∷ Key (codes "end") ∷ tokens))
+    (and_from _ _ f.0 (expr_safe e (Sign (codes "<=")) (Sign (codes ";") ∷ Key (codes "end") ∷ tokens) f.1
+    (semicolon_fine (Key (codes "end") ∷ tokens) (key_fine (codes "end") tokens refl h))))))
 
 item_fine : (item : ModItem) (written tokens : List Token) → IsItemText item written → fine_first tokens ≡ true → fine_first (written ++ tokens) ≡ true
 unfolding class_of
@@ -154,7 +177,9 @@ item_fine (Reg signed width n) written tokens is h = net_item_fine (codes "reg")
 item_fine (Assign n e) written tokens is h = assign_fine n e written tokens is.1 h
 item_fine (Always n first condition e) written tokens is h = always_fine n first condition e written tokens is h
 
-items_fine : (items : List ModItem) (written : List (List Token)) (tokens : List Token) → AllZip IsItemText items written → fine_first tokens ≡ true → fine_first (flat_map (λ item. item) written ++ tokens) ≡ true
+items_fine : (items : List ModItem) (written : List (List Token)) (tokens : List Token)
+    → AllZip IsItemText items written → fine_first tokens ≡ true
+    → fine_first (flat_map (λ item. item) written ++ tokens) ≡ true
 items_fine [] [] tokens all h = h
 items_fine [] (text ∷ written) tokens all h = absurd all
 items_fine (item ∷ items) [] tokens all h = absurd all
@@ -167,6 +192,19 @@ unfolding class_of
 module_safe m tokens is =
     ap (safe (Key [])) is.text
     ∙ after_closing (Key []) _ (closes_key [])
-    (attrs_fine m.attrs _ (key_fine (codes "module") (Identifier m.name ∷ Sign (codes "(") ∷ (joined comma is.ports ++ Sign (codes ")") ∷ Sign (codes ";") ∷ (flat_map {X = List Token} {A = Token} (λ item. item) is.items ++ Key (codes "endmodule") ∷ []))) refl (name_fine m.name (Sign (codes "(") ∷ (joined comma is.ports ++ Sign (codes ")") ∷ Sign (codes ";") ∷ (flat_map {X = List Token} {A = Token} (λ item. item) is.items ++ Key (codes "endmodule") ∷ [])))
-    (open_fine _ (ports_safe m.ports is.ports (Sign (codes ")") ∷ Sign (codes ";") ∷ (flat_map {X = List Token} {A = Token} (λ item. item) is.items ++ Key (codes "endmodule") ∷ [])) is.has_port is.each_port
-    (round_ends (Sign (codes ";") ∷ (flat_map {X = List Token} {A = Token} (λ item. item) is.items ++ Key (codes "endmodule") ∷ [])) (semicolon_fine _ (items_fine m.items is.items (Key (codes "endmodule") ∷ []) is.each_item (key_fine (codes "endmodule") [] refl refl)))))))))
+    (attrs_fine m.attrs _ (key_fine (codes "module")
+    (Identifier m.name ∷ Sign (codes "(")
+    ∷ (joined comma is.ports ++ Sign (codes ")") ∷ Sign (codes ";")
+    ∷ (flat_map {X = List Token} {A = Token} (λ item. item) is.items ++ Key (codes "endmodule") ∷ [])))
+    refl (name_fine m.name (Sign (codes "(")
+    ∷ (joined comma is.ports ++ Sign (codes ")") ∷ Sign (codes ";")
+    ∷ (flat_map {X = List Token} {A = Token} (λ item. item) is.items
+    ++ Key (codes "endmodule") ∷ [])))
+    (open_fine _ (ports_safe m.ports is.ports
+    (Sign (codes ")") ∷ Sign (codes ";")
+    ∷ (flat_map {X = List Token} {A = Token} (λ item. item) is.items ++ Key (codes "endmodule") ∷ []))
+    is.has_port is.each_port
+    (round_ends (Sign (codes ";") ∷ (flat_map {X = List Token} {A = Token} (λ item. item) is.items
+    ++ Key (codes "endmodule") ∷ [])) (semicolon_fine _
+    (items_fine m.items is.items (Key (codes "endmodule") ∷ []) is.each_item
+    (key_fine (codes "endmodule") [] refl refl)))))))))

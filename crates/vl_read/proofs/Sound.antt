@@ -16,7 +16,8 @@ use Rattle.vl_read.specs.inner.Places.NetKind.{OfPort}
 use Rattle.vl_read.specs.declared.places.NetSpot.TheVariants.{Word}
 use Rattle.vl_read.specs.inner.Places.AttrSpot.{AttrName}
 use Rattle.vl_read.specs.inner.Places.{Place, Parser}
-use Rattle.vl_read.specs.inner.Places.Place.{Start, Attributes, Title, Ports, Port as PortPlace, Net, AfterPort, AfterPorts, Items, AssignName, AssignSign, Head, ClockedName, ClockedSign, First, AfterFirst, Else, Branch, If, Again, NextSign, Expression, Semicolon, End, Done}
+use Rattle.vl_read.specs.inner.Places.Place.{Start, Attributes, Title, Ports, Port as PortPlace, Net, AfterPort, AfterPorts, Items, AssignName, AssignSign, Head, ClockedName, ClockedSign, First}
+use Rattle.vl_read.specs.inner.Places.Place.{AfterFirst, Else, Branch, If, Again, NextSign, Expression, Semicolon, End, Done}
 use Rattle.vl_read.specs.declared.places.Draft.{Draft}
 use Rattle.vl_read.specs.inner.Lexemes.{kind_of}
 use Rattle.vl_read.specs.inner.Plain.{has_none, item_step, step_at, step, module_at, parse, start}
@@ -40,7 +41,8 @@ opens_attrs : (lexeme : List ℕ) (attrs : List Attr) → (bytes_eq lexeme (code
 opens_attrs lexeme attrs t = let both = and_parts (bytes_eq lexeme (codes "(*")) (has_none attrs) t in (both.0, no_attrs attrs both.1)
 
 start_sound : (most : ℕ) (draft : Draft) (lexeme : List ℕ) (text : List Token) (q : Parser) → BeforePorts most draft → text ≡ attrs_tokens draft.attrs →
-    cond (bytes_eq lexeme (codes "(*") && has_none draft.attrs) (goes draft (Attributes false [] AttrName)) (cond (bytes_eq lexeme (codes "module")) (goes draft Title) None) ≡ Some q → Onward most text lexeme q
+    cond (bytes_eq lexeme (codes "(*") && has_none draft.attrs) (goes draft (Attributes false [] AttrName))
+    (cond (bytes_eq lexeme (codes "module")) (goes draft Title) None) ≡ Some q → Onward most text lexeme q
 start_sound most draft lexeme text q before is =
     either_way (bytes_eq lexeme (codes "(*") && has_none draft.attrs) _ _ q
     (λ t e. let both = opens_attrs lexeme draft.attrs t in
@@ -48,14 +50,17 @@ start_sound most draft lexeme text q before is =
     (record { own = Sign (codes "(*") ∷ []; around = (before, ap (λ t. t ++ Sign (codes "(*") ∷ []) (is ∙ ap attrs_tokens both.1)); is = refl }) e)
     (onward_key most text lexeme q draft Title (codes "module") (before, ap (λ t. t ++ Key (codes "module") ∷ []) is))
 
-title_sound : (most : ℕ) (draft : Draft) (kind : Kind) (lexeme : List ℕ) (text : List Token) (q : Parser) → BeforePorts most draft → text ≡ attrs_tokens draft.attrs ++ Key (codes "module") ∷ [] → IsOfKind kind lexeme →
+title_sound : (most : ℕ) (draft : Draft) (kind : Kind) (lexeme : List ℕ) (text : List Token) (q : Parser)
+    → BeforePorts most draft → text ≡ attrs_tokens draft.attrs ++ Key (codes "module") ∷ [] → IsOfKind kind lexeme →
     step_at draft Title kind lexeme ≡ Some q → Onward most text lexeme q
 unfolding step_at
 title_sound most draft kind lexeme text q before is named =
     onward_name most text lexeme q (record draft { name = lexeme }) Ports kind named
     (record { no_ports = before.no_ports; no_items = before.no_items; kept = before.kept }, grow (attrs_tokens draft.attrs) (Key (codes "module") ∷ []) _ text (Identifier lexeme) is refl)
 
-ports_begin : (most : ℕ) (draft : Draft) (text : List Token) → BeforePorts most draft → text ≡ attrs_tokens draft.attrs ++ (Key (codes "module") ∷ Identifier draft.name ∷ []) → AtPort most draft [] (text ++ Sign (codes "(") ∷ [])
+ports_begin : (most : ℕ) (draft : Draft) (text : List Token) → BeforePorts most draft
+    → text ≡ attrs_tokens draft.attrs ++ (Key (codes "module") ∷ Identifier draft.name ∷ [])
+    → AtPort most draft [] (text ++ Sign (codes "(") ∷ [])
 ports_begin most draft text before is =
     record {
       ports = [];
@@ -69,12 +74,20 @@ ports_begin most draft text before is =
 
 port_sound : (most : ℕ) (draft : Draft) (attrs : List Attr) (lexeme : List ℕ) (text : List Token) (q : Parser) → AtPort most draft (attrs_tokens attrs) text →
     cond (bytes_eq lexeme (codes "(*") && has_none attrs) (goes draft (Attributes true [] AttrName))
-    (cond (bytes_eq lexeme (codes "input")) (goes draft (Net (OfPort attrs true) Word)) (cond (bytes_eq lexeme (codes "output")) (goes draft (Net (OfPort attrs false) Word)) None)) ≡ Some q → Onward most text lexeme q
+    (cond (bytes_eq lexeme (codes "input")) (goes draft (Net (OfPort attrs true) Word))
+    (cond (bytes_eq lexeme (codes "output")) (goes draft (Net (OfPort attrs false) Word)) None)) ≡ Some q
+    → Onward most text lexeme q
 port_sound most draft attrs lexeme text q at =
     either_way (bytes_eq lexeme (codes "(*") && has_none attrs) _ _ q
     (λ t e. let both = opens_attrs lexeme attrs t in
     onward_to most text lexeme q draft (Attributes true [] AttrName) (Sign (codes "(*")) (same_word lexeme (codes "(*") both.0)
-    (record { own = Sign (codes "(*") ∷ []; around = subst (λ l. AtPort most draft (attrs_tokens l ++ Sign (codes "(*") ∷ []) (text ++ Sign (codes "(*") ∷ [])) both.1 (grow_port most draft (attrs_tokens attrs) text (Sign (codes "(*")) at); is = refl }) e)
+    (record {
+      own = Sign (codes "(*") ∷ [];
+      around =
+          subst (λ l. AtPort most draft (attrs_tokens l ++ Sign (codes "(*") ∷ []) (text ++ Sign (codes "(*") ∷ []))
+          both.1 (grow_port most draft (attrs_tokens attrs) text (Sign (codes "(*")) at);
+      is = refl;
+    }) e)
     (either_word lexeme (codes "input") _ _ q
     (λ h e. onward_to most text lexeme q draft (Net (OfPort attrs true) Word) (Key (codes "input")) h
     (record { own = Key (codes "input") ∷ []; around = grow_port most draft (attrs_tokens attrs) text (Key (codes "input")) at; is = refl }) e)
@@ -101,7 +114,9 @@ module_read most draft text body =
         each_port = parts.each_port;
         each_item = parts.each_item;
         text = ap (λ t. t ++ Key (codes "endmodule") ∷ []) body.is
-            ∙ regroup (attrs_tokens draft.attrs) (joined comma parts.ports) (flat_map (λ item. item) parts.items) (Key (codes "module")) (Identifier draft.name) (Sign (codes "(")) (Sign (codes ")")) (Sign (codes ";")) (Key (codes "endmodule"));
+            ∙ regroup (attrs_tokens draft.attrs) (joined comma parts.ports) (flat_map (λ item. item) parts.items)
+            (Key (codes "module")) (Identifier draft.name) (Sign (codes "(")) (Sign (codes ")"))
+            (Sign (codes ";")) (Key (codes "endmodule"));
       };
       room = parts.room;
     }
@@ -122,7 +137,8 @@ items_sound most draft lexeme text q body =
 next_text : (own a b : List Token) (name : List ℕ) → own ≡ a ++ (b ++ Identifier name ∷ []) → own ++ Sign (codes "<=") ∷ [] ≡ a ++ (b ++ Identifier name ∷ Sign (codes "<=") ∷ [])
 next_text own a b name is = ap (λ t. t ++ Sign (codes "<=") ∷ []) is ∙ three_before a b (Identifier name ∷ []) (Sign (codes "<=") ∷ [])
 
-branch_sound : (most : ℕ) (draft : Draft) (name : List ℕ) (first : Sized) (kind : Kind) (lexeme : List ℕ) (text : List Token) (q : Parser) → ItemAt most draft (Branch name first) text → IsOfKind kind lexeme →
+branch_sound : (most : ℕ) (draft : Draft) (name : List ℕ) (first : Sized) (kind : Kind) (lexeme : List ℕ)
+    (text : List Token) (q : Parser) → ItemAt most draft (Branch name first) text → IsOfKind kind lexeme →
     step_at draft (Branch name first) kind lexeme ≡ Some q → Onward most text lexeme q
 unfolding step_at
 branch_sound most draft name first kind lexeme text q item is =
@@ -144,14 +160,18 @@ place_sound most draft AfterPort kind lexeme text q has is e = after_port most d
 place_sound most draft AfterPorts kind lexeme text q has is e = onward_sign most text lexeme q draft Items (codes ";") has e
 place_sound most draft Items kind lexeme text q has is e = items_sound most draft lexeme text q has e
 place_sound most draft AssignName kind lexeme text q has is e =
-    onward_name most text lexeme q draft (AssignSign lexeme) kind is (more_item most draft has.own text (Identifier lexeme) (AssignSign lexeme) has.around (ap (λ t. t ++ Identifier lexeme ∷ []) has.is)) e
+    onward_name most text lexeme q draft (AssignSign lexeme) kind is
+    (more_item most draft has.own text (Identifier lexeme) (AssignSign lexeme) has.around
+    (ap (λ t. t ++ Identifier lexeme ∷ []) has.is)) e
 place_sound most draft (AssignSign name) kind lexeme text q has is e =
     onward_sign most text lexeme q draft (Expression (Assigned name) [] Operand) (codes "=")
     (more_item most draft has.own text (Sign (codes "=")) (Expression (Assigned name) [] Operand) has.around
     (expression_starts (Assigned name) (has.own ++ Sign (codes "=") ∷ []) tt (ap (λ t. t ++ Sign (codes "=") ∷ []) has.is))) e
 place_sound most draft (Head at) kind lexeme text q has is e = head_sound most draft at lexeme text q has e
 place_sound most draft ClockedName kind lexeme text q has is e =
-    onward_name most text lexeme q draft (ClockedSign lexeme) kind is (more_item most draft has.own text (Identifier lexeme) (ClockedSign lexeme) has.around (ap (λ t. t ++ Identifier lexeme ∷ []) has.is)) e
+    onward_name most text lexeme q draft (ClockedSign lexeme) kind is
+    (more_item most draft has.own text (Identifier lexeme) (ClockedSign lexeme) has.around
+    (ap (λ t. t ++ Identifier lexeme ∷ []) has.is)) e
 place_sound most draft (ClockedSign name) kind lexeme text q has is e =
     onward_sign most text lexeme q draft (First name) (codes "<=") (more_item most draft has.own text (Sign (codes "<=")) (First name) has.around (ap (λ t. t ++ Sign (codes "<=") ∷ []) has.is)) e
 place_sound most draft (First name) kind lexeme text q has is e =
@@ -159,9 +179,13 @@ place_sound most draft (First name) kind lexeme text q has is e =
     (λ n written e. onward_to most text lexeme q draft (AfterFirst name n) (Based n) written
     (more_item most draft has.own text (Based n) (AfterFirst name n) has.around (ap (λ t. t ++ Based n ∷ []) has.is)) e) e
 place_sound most draft (AfterFirst name first) kind lexeme text q has is e =
-    onward_sign most text lexeme q draft (Else name first) (codes ";") (more_item most draft has.own text (Sign (codes ";")) (Else name first) has.around (ap (λ t. t ++ Sign (codes ";") ∷ []) has.is)) e
+    onward_sign most text lexeme q draft (Else name first) (codes ";")
+    (more_item most draft has.own text (Sign (codes ";")) (Else name first) has.around
+    (ap (λ t. t ++ Sign (codes ";") ∷ []) has.is)) e
 place_sound most draft (Else name first) kind lexeme text q has is e =
-    onward_key most text lexeme q draft (Branch name first) (codes "else") (more_item most draft has.own text (Key (codes "else")) (Branch name first) has.around (ap (λ t. t ++ Key (codes "else") ∷ []) has.is)) e
+    onward_key most text lexeme q draft (Branch name first) (codes "else")
+    (more_item most draft has.own text (Key (codes "else")) (Branch name first) has.around
+    (ap (λ t. t ++ Key (codes "else") ∷ []) has.is)) e
 place_sound most draft (Branch name first) kind lexeme text q has is e = branch_sound most draft name first kind lexeme text q has is e
 place_sound most draft (If name first) kind lexeme text q has is e =
     onward_sign most text lexeme q draft (Expression (Condition name first) [] Operand) (codes "(")
@@ -172,7 +196,9 @@ place_sound most draft (Again clocked) kind lexeme text q has is e =
 place_sound most draft (NextSign clocked) kind lexeme text q has is e =
     onward_sign most text lexeme q draft (Expression (Next clocked) [] Operand) (codes "<=")
     (more_item most draft has.own text (Sign (codes "<=")) (Expression (Next clocked) [] Operand) has.around
-    (expression_starts (Next clocked) (has.own ++ Sign (codes "<=") ∷ []) has.is.0 (next_text has.own (clocked_tokens clocked.name clocked.first) (condition_tokens clocked.condition) clocked.name has.is.1))) e
+    (expression_starts (Next clocked) (has.own ++ Sign (codes "<=") ∷ []) has.is.0
+    (next_text has.own (clocked_tokens clocked.name clocked.first)
+    (condition_tokens clocked.condition) clocked.name has.is.1))) e
 place_sound most draft (Expression goal frames spot) kind lexeme text q has is e = expression_sound most draft goal frames spot kind lexeme text q has is e
 place_sound most draft (Semicolon item) kind lexeme text q has is e =
     onward_sign most text lexeme q (record draft { items = draft.items ++ item ∷ [] }) Items (codes ";") (item_read most draft item has.own text (Sign (codes ";")) has.around has.is) e

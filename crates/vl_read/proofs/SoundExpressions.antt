@@ -67,12 +67,15 @@ good_literal : (number : Sized) (frames : List Frame) → frames_depth frames �
 good_literal number frames deep = good_layer (Expr-F.Literal number) (length frames) (omega (arith, length_depth frames)) refl
 
 -- a token ends an operand
-pub ends_operand : (frames : List Frame) (x : Expr-F Expr) (own text : List Token) (token : Token) → frames_depth frames ≤ 256 → list_all is_frame_filled frames ≡ true → text ≡ frames_tokens frames ++ own →
+pub ends_operand : (frames : List Frame) (x : Expr-F Expr) (own text : List Token) (token : Token)
+    → frames_depth frames ≤ 256 → list_all is_frame_filled frames ≡ true → text ≡ frames_tokens frames ++ own →
     own ++ token ∷ [] ≡ tokens_step (map-Expr Expr (List Token) expr_tokens x) → IsGood (length frames) (roll-Expr x) → Begun frames (Value (roll-Expr x)) (text ++ token ∷ [])
 ends_operand frames x own text token deep filled is same good =
     record { is = grow (frames_tokens frames) own (expr_tokens (roll-Expr x)) text token is (same ∙ layer_text x); deep = deep; filled = filled; room = good }
 
-begin_cast : (frames : List Frame) (signed : Bool) (text : List Token) → Begun frames Operand text → length frames < 256 → Begun (frames ++ InCast signed ∷ []) (Begins OpenParenthesis) (text ++ Key (cast_word signed) ∷ [])
+begin_cast : (frames : List Frame) (signed : Bool) (text : List Token) → Begun frames Operand text
+    → length frames < 256
+    → Begun (frames ++ InCast signed ∷ []) (Begins OpenParenthesis) (text ++ Key (cast_word signed) ∷ [])
 begin_cast frames signed text begun room =
     record {
       is = twice text (Key (cast_word signed)) (Sign (codes "(")) ∙ ap (λ t. t ++ frame_tokens (InCast signed)) begun.is ∙ sym (frames_push frames (InCast signed));
@@ -84,7 +87,9 @@ begin_cast frames signed text begun room =
 mark_opens : (frames : List Frame) (mark : List ℕ) (text : List Token) → text ≡ frames_tokens frames → text ++ Sign mark ∷ [] ≡ frames_tokens frames ++ Sign mark ∷ []
 mark_opens frames mark text is = ap (λ t. t ++ Sign mark ∷ []) is
 
-compound_sound : (draft : Draft) (goal : Goal) (frames : List Frame) (lexeme : List ℕ) (text : List Token) (q : Parser) → Begun frames Operand text → compound_step draft goal frames lexeme ≡ Some q → Goes draft goal text lexeme q
+compound_sound : (draft : Draft) (goal : Goal) (frames : List Frame) (lexeme : List ℕ) (text : List Token)
+    (q : Parser) → Begun frames Operand text → compound_step draft goal frames lexeme ≡ Some q
+    → Goes draft goal text lexeme q
 unfolding compound_step
 compound_sound draft goal frames lexeme text q begun =
     either_way (has_room frames) _ None q

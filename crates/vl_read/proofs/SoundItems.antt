@@ -1,5 +1,6 @@
 -- What each lexeme adds to an item.
-use Rattle.std.proofs.Common.{◌≡◌, ℕ, ◌<◌, true, false, cond, List, [], ◌∷◌, ◌++◌, length, Some, None, ⊎_elim, refl, sym, ◌∙◌, ap, subst, codes, arith, append_assoc, append-nil, length-append, bytes_eq}
+use Rattle.std.proofs.Common.{◌≡◌, ℕ, ◌<◌, true, false, cond, List, [], ◌∷◌, ◌++◌, length, Some, None, ⊎_elim, refl, sym, ◌∙◌, ap, subst, codes, arith, append_assoc, append-nil, length-append}
+use Rattle.std.proofs.Common.{bytes_eq}
 use Rattle.std.specs.List.{flat_map}
 use Rattle.std.proofs.lemmas.Grind.{flat_map-append}
 use Rattle.vl_ast.specs.declared.modules.ModItem.{ModItem}
@@ -54,7 +55,9 @@ item_read most draft item own text token at is =
         ∙ sym (append-nil (flat_map (λ item. item) (items ++ whole ∷ [])))
 
 -- one more token of the item
-pub more_item : (most : ℕ) (draft : Draft) (own text : List Token) (token : Token) (place : Place) → InItem most draft own text → IsBegunItem place (own ++ token ∷ []) → ItemAt most draft place (text ++ token ∷ [])
+pub more_item : (most : ℕ) (draft : Draft) (own text : List Token) (token : Token) (place : Place)
+    → InItem most draft own text → IsBegunItem place (own ++ token ∷ [])
+    → ItemAt most draft place (text ++ token ∷ [])
 more_item most draft own text token place around is = record { own = own ++ token ∷ []; around = grow_item most draft own text token around; is = is }
 
 -- the first word of an item
@@ -62,15 +65,35 @@ more_item most draft own text token place around is = record { own = own ++ toke
 first_word : (most : ℕ) (draft : Draft) (text : List Token) (token : Token) → InBody most draft [] text → length draft.items < most → InItem most draft (token ∷ []) (text ++ token ∷ [])
 first_word most draft text token body room = record { body = grow_body most draft [] text token body; room = room }
 
-pub item_sound : (most : ℕ) (draft : Draft) (lexeme : List ℕ) (text : List Token) (q : Parser) → InBody most draft [] text → length draft.items < most → item_step draft lexeme ≡ Some q → Onward most text lexeme q
+pub item_sound : (most : ℕ) (draft : Draft) (lexeme : List ℕ) (text : List Token) (q : Parser)
+    → InBody most draft [] text → length draft.items < most → item_step draft lexeme ≡ Some q
+    → Onward most text lexeme q
 unfolding item_step
 item_sound most draft lexeme text q body room =
     either_word lexeme (codes "wire") _ _ q
-    (λ h e. onward_to most text lexeme q draft (Net (OfItem false) Signed) (Key (codes "wire")) h (record { own = Key (codes "wire") ∷ []; around = first_word most draft text (Key (codes "wire")) body room; is = refl }) e)
+    (λ h e. onward_to most text lexeme q draft (Net (OfItem false) Signed) (Key (codes "wire")) h
+    (record {
+      own = Key (codes "wire") ∷ [];
+      around =
+          first_word most draft text (Key (codes "wire")) body room;
+      is = refl;
+    }) e)
     (either_word lexeme (codes "reg") _ _ q
-    (λ h e. onward_to most text lexeme q draft (Net (OfItem true) Signed) (Key (codes "reg")) h (record { own = Key (codes "reg") ∷ []; around = first_word most draft text (Key (codes "reg")) body room; is = refl }) e)
+    (λ h e. onward_to most text lexeme q draft (Net (OfItem true) Signed) (Key (codes "reg")) h
+    (record {
+      own = Key (codes "reg") ∷ [];
+      around =
+          first_word most draft text (Key (codes "reg")) body room;
+      is = refl;
+    }) e)
     (either_word lexeme (codes "assign") _ _ q
-    (λ h e. onward_to most text lexeme q draft AssignName (Key (codes "assign")) h (record { own = Key (codes "assign") ∷ []; around = first_word most draft text (Key (codes "assign")) body room; is = refl }) e)
+    (λ h e. onward_to most text lexeme q draft AssignName (Key (codes "assign")) h
+    (record {
+      own = Key (codes "assign") ∷ [];
+      around =
+          first_word most draft text (Key (codes "assign")) body room;
+      is = refl;
+    }) e)
     (onward_key most text lexeme q draft (Head Event) (codes "always")
     (record { own = Key (codes "always") ∷ []; around = first_word most draft text (Key (codes "always")) body room; is = refl }))))
 
@@ -100,7 +123,9 @@ head_sound most draft at lexeme text q item e =
 
 -- the same name again
 pub again_sound : (most : ℕ) (draft : Draft) (clocked : Clocked) (lexeme : List ℕ) (own text : List Token) (q : Parser) → InItem most draft own text → IsCondition clocked.condition →
-    own ≡ clocked_tokens clocked.name clocked.first ++ condition_tokens clocked.condition → is_identifier lexeme ≡ true → cond (bytes_eq lexeme clocked.name) (goes draft (NextSign clocked)) None ≡ Some q → Onward most text lexeme q
+    own ≡ clocked_tokens clocked.name clocked.first ++ condition_tokens clocked.condition
+    → is_identifier lexeme ≡ true → cond (bytes_eq lexeme clocked.name) (goes draft (NextSign clocked)) None
+    ≡ Some q → Onward most text lexeme q
 again_sound most draft clocked lexeme own text q around condition is named e =
     let r = expected lexeme clocked.name _ q e in
     onward_to most text lexeme q draft (NextSign clocked) (Identifier clocked.name) (r.0, subst (λ n. is_identifier n ≡ true) r.0 named)
@@ -113,7 +138,8 @@ pub expression_starts : (goal : Goal) (text : List Token) → IsGoal goal → te
 expression_starts goal text goal_is is =
     record { own = []; is = is ∙ sym (append-nil (goal_tokens goal)); goal_is = goal_is; begun = record { is = refl; deep = omega arith; filled = refl; room = tt } }
 
-goal_sound : (most : ℕ) (draft : Draft) (goal : Goal) (lexeme : List ℕ) (own expression text : List Token) (q : Parser) → InItem most draft own text → own ≡ goal_tokens goal ++ expression → IsGoal goal →
+goal_sound : (most : ℕ) (draft : Draft) (goal : Goal) (lexeme : List ℕ) (own expression text : List Token)
+    (q : Parser) → InItem most draft own text → own ≡ goal_tokens goal ++ expression → IsGoal goal →
     Ended draft goal expression lexeme q → Onward most text lexeme q
 unfolding goal_step
 goal_sound most draft (Assigned name) lexeme own expression text q around is goal_is ended =
@@ -130,13 +156,17 @@ goal_sound most draft (Next clocked) lexeme own expression text q around is goal
       goal_is,
       ended.good,
       ap (λ t. (t ++ Sign (codes ";") ∷ []) ++ Key (codes "end") ∷ []) (is ∙ ap (λ t. goal_tokens (Next clocked) ++ t) ended.is)
-          ∙ all (clocked_tokens clocked.name clocked.first) (condition_tokens clocked.condition) (expr_tokens ended.value) (Identifier clocked.name) (Sign (codes "<=")) (Sign (codes ";")) (Key (codes "end")),
+          ∙ all (clocked_tokens clocked.name clocked.first) (condition_tokens clocked.condition)
+          (expr_tokens ended.value) (Identifier clocked.name) (Sign (codes "<=")) (Sign (codes ";"))
+          (Key (codes "end")),
     )) ended.goes
   where
     all : (a b c : List Token) (s t u v : Token) → ((((a ++ (b ++ s ∷ t ∷ [])) ++ c) ++ u ∷ []) ++ v ∷ []) ≡ a ++ (b ++ s ∷ t ∷ (c ++ u ∷ v ∷ []))
     all a b c s t u v = simp append_assoc
 
-pub expression_sound : (most : ℕ) (draft : Draft) (goal : Goal) (frames : List Frame) (spot : Spot) (kind : Kind) (lexeme : List ℕ) (text : List Token) (q : Parser) → ItemAt most draft (Expression goal frames spot) text → IsOfKind kind lexeme →
+pub expression_sound : (most : ℕ) (draft : Draft) (goal : Goal) (frames : List Frame) (spot : Spot) (kind : Kind)
+    (lexeme : List ℕ) (text : List Token) (q : Parser) → ItemAt most draft (Expression goal frames spot) text
+    → IsOfKind kind lexeme →
     step_at draft (Expression goal frames spot) kind lexeme ≡ Some q → Onward most text lexeme q
 unfolding step_at
 expression_sound most draft goal frames spot kind lexeme text q item is e =

@@ -1,5 +1,6 @@
 -- What each lexeme adds to a list of attributes and to a declaration.
-use Rattle.std.proofs.Common.{◌≡◌, ◌≢◌, ℕ, ◌+◌, ◌-◌, Bool, true, false, cond, List, [], ◌∷◌, ◌++◌, map, length, Option, Some, None, inl, inr, refl, sym, ◌∙◌, ap, subst, codes, arith, append_assoc, append-nil, bytes_eq}
+use Rattle.std.proofs.Common.{◌≡◌, ◌≢◌, ℕ, ◌+◌, ◌-◌, Bool, true, false, cond, List, [], ◌∷◌, ◌++◌, map, length, Option, Some, None, inl, inr, refl, sym, ◌∙◌, ap, subst, codes, arith, append_assoc}
+use Rattle.std.proofs.Common.{append-nil, bytes_eq}
 use Rattle.std.specs.List.{AllZip, flat_map}
 use Rattle.std.proofs.lemmas.List.{map-append}
 use Rattle.vl_ast.specs.declared.modules.Attr.{Attr}
@@ -57,14 +58,16 @@ pub on_name_or : {R : Type 0} (kind : Kind) (lexeme : List ℕ) (x other : Optio
 on_name_or Name lexeme x other q is first second e = first is e
 on_name_or _ lexeme x other q is first second e = second e
 
-pub onward_name : (most : ℕ) (text : List Token) (lexeme : List ℕ) (q : Parser) (draft : Draft) (place : Place) (kind : Kind) → IsOfKind kind lexeme → Has most draft place (text ++ Identifier lexeme ∷ []) →
+pub onward_name : (most : ℕ) (text : List Token) (lexeme : List ℕ) (q : Parser) (draft : Draft) (place : Place)
+    (kind : Kind) → IsOfKind kind lexeme → Has most draft place (text ++ Identifier lexeme ∷ []) →
     cond (is_name kind) (goes draft place) None ≡ Some q → Onward most text lexeme q
 onward_name most text lexeme q draft place kind is has e =
     on_name_or kind lexeme _ None q is (λ named e. onward_to most text lexeme q draft place (Identifier lexeme) (refl, named) has e) (nowhere q) e
 
 -- what stands around grows
 
-grown_port : (most : ℕ) (draft : Draft) (own text : List Token) (token : Token) → (at : AtPort most draft own text) → text ++ token ∷ [] ≡ opened_tokens draft ++ (before_next at.ports ++ (own ++ token ∷ []))
+grown_port : (most : ℕ) (draft : Draft) (own text : List Token) (token : Token) → (at : AtPort most draft own text)
+    → text ++ token ∷ [] ≡ opened_tokens draft ++ (before_next at.ports ++ (own ++ token ∷ []))
 grown_port most draft own text token at = ap (λ t. t ++ token ∷ []) at.is ∙ three_before (opened_tokens draft) (before_next at.ports) own (token ∷ [])
 
 pub grow_port : (most : ℕ) (draft : Draft) (own text : List Token) (token : Token) → AtPort most draft own text → AtPort most draft (own ++ token ∷ []) (text ++ token ∷ [])
@@ -87,12 +90,16 @@ grow_item most draft own text token at = record { body = grow_body most draft ow
 
 -- attributes
 
-grow_attrs : (most : ℕ) (draft : Draft) (of_port : Bool) (own text : List Token) (token : Token) → AroundAttrs most draft of_port own text → AroundAttrs most draft of_port (own ++ token ∷ []) (text ++ token ∷ [])
+grow_attrs : (most : ℕ) (draft : Draft) (of_port : Bool) (own text : List Token) (token : Token)
+    → AroundAttrs most draft of_port own text
+    → AroundAttrs most draft of_port (own ++ token ∷ []) (text ++ token ∷ [])
 grow_attrs most draft true own text token at = grow_port most draft own text token at
 grow_attrs most draft false own text token at = (at.0, ap (λ t. t ++ token ∷ []) at.1)
 
 more_attrs : (most : ℕ) (draft : Draft) (of_port : Bool) (attrs : List Attr) (at other : AttrSpot) (lexeme : List ℕ) (text : List Token) (q : Parser) (attrs' : List Attr) (token : Token) →
-    (is_at : AttrsAt most draft of_port attrs at text) → IsWritten token lexeme → IsAttrText attrs' other (is_at.own ++ token ∷ []) → goes draft (Attributes of_port attrs' other) ≡ Some q → Onward most text lexeme q
+    (is_at : AttrsAt most draft of_port attrs at text) → IsWritten token lexeme
+    → IsAttrText attrs' other (is_at.own ++ token ∷ []) → goes draft (Attributes of_port attrs' other) ≡ Some q
+    → Onward most text lexeme q
 more_attrs most draft of_port attrs at other lexeme text q attrs' token is_at written is e =
     onward_to most text lexeme q draft (Attributes of_port attrs' other) token written
     (record { own = is_at.own ++ token ∷ []; around = grow_attrs most draft of_port is_at.own text token is_at.around; is = is }) e
@@ -118,7 +125,9 @@ attr_full attrs attr own is =
     )
 
 close_attrs : (most : ℕ) (draft : Draft) (of_port : Bool) (attrs : List Attr) (lexeme : List ℕ) (text : List Token) (q : Parser) → AttrsAt most draft of_port attrs More text →
-    cond of_port (cond (bytes_eq lexeme (codes "*)")) (goes draft (PortPlace attrs)) None) (cond (bytes_eq lexeme (codes "*)")) (goes (record draft { attrs = attrs }) Start) None) ≡ Some q → Onward most text lexeme q
+    cond of_port (cond (bytes_eq lexeme (codes "*)")) (goes draft (PortPlace attrs)) None)
+    (cond (bytes_eq lexeme (codes "*)")) (goes (record draft { attrs = attrs }) Start) None) ≡ Some q
+    → Onward most text lexeme q
 close_attrs most draft true attrs lexeme text q at =
     onward_sign most text lexeme q draft (PortPlace attrs) (codes "*)")
     (subst (λ own. AtPort most draft own (text ++ Sign (codes "*)") ∷ [])) at.is.1 (grow_port most draft at.own text (Sign (codes "*)")) at.around))
@@ -126,7 +135,9 @@ close_attrs most draft false attrs lexeme text q at =
     onward_sign most text lexeme q (record draft { attrs = attrs }) Start (codes "*)")
     (record { no_ports = at.around.0.no_ports; no_items = at.around.0.no_items; kept = at.around.0.kept }, ap (λ t. t ++ Sign (codes "*)") ∷ []) at.around.1 ∙ at.is.1)
 
-pub attr_sound : (most : ℕ) (draft : Draft) (of_port : Bool) (attrs : List Attr) (at : AttrSpot) (kind : Kind) (lexeme : List ℕ) (text : List Token) (q : Parser) → AttrsAt most draft of_port attrs at text → IsOfKind kind lexeme →
+pub attr_sound : (most : ℕ) (draft : Draft) (of_port : Bool) (attrs : List Attr) (at : AttrSpot) (kind : Kind)
+    (lexeme : List ℕ) (text : List Token) (q : Parser) → AttrsAt most draft of_port attrs at text
+    → IsOfKind kind lexeme →
     attr_step draft of_port attrs at kind lexeme ≡ Some q → Onward most text lexeme q
 unfolding attr_step
 attr_sound most draft of_port attrs AttrName kind lexeme text q at is e =
@@ -186,7 +197,9 @@ port_read most draft port own text token at is =
         each_port = each;
         no_items = at.no_items;
         kept = at.kept;
-        is = ap (λ t. t ++ comma) grown ∙ three_before (opened_tokens draft) (before_next at.ports) whole comma ∙ ap (λ t. opened_tokens draft ++ t) (sym (before_push at.ports whole) ∙ sym (append-nil (before_next ports)));
+        is = ap (λ t. t ++ comma) grown ∙ three_before (opened_tokens draft) (before_next at.ports) whole comma
+            ∙ ap (λ t. opened_tokens draft ++ t)
+            (sym (before_push at.ports whole) ∙ sym (append-nil (before_next ports)));
       },
       record {
         parts = record {
@@ -216,8 +229,13 @@ unfolding declared
 declared_sound most draft (OfPort attrs input) signed width lexeme own text range q around is ranged named e =
     let port : Port = record { attrs = attrs; input = input; signed = signed; width = width; name = lexeme } in
     onward_to most text lexeme q (record draft { ports = draft.ports ++ port ∷ [] }) AfterPort (Identifier lexeme) (refl, named)
-    (port_read most draft port (attrs_tokens attrs ++ own) text (Identifier lexeme) around
-    (range, ranged, append_assoc (attrs_tokens attrs) own (Identifier lexeme ∷ []) ∙ ap (λ t. attrs_tokens attrs ++ t) (declaration (net_words (OfPort attrs input)) (signed_tokens signed) range own (Identifier lexeme) is))) e
+    (port_read most draft port (attrs_tokens attrs ++ own) text (Identifier lexeme) around (
+      range,
+      ranged,
+      append_assoc (attrs_tokens attrs) own (Identifier lexeme ∷ [])
+          ∙ ap (λ t. attrs_tokens attrs ++ t) (declaration (net_words (OfPort attrs input))
+          (signed_tokens signed) range own (Identifier lexeme) is),
+    )) e
 declared_sound most draft (OfItem is_reg) signed width lexeme own text range q around is ranged named e =
     onward_to most text lexeme q draft (Semicolon (net_item is_reg signed width lexeme)) (Identifier lexeme) (refl, named)
     (record {
@@ -239,7 +257,8 @@ signed_sound most draft net kind lexeme text q at is =
     (λ h e. more_net most draft net Signed (Ranged true) lexeme text q (Key (codes "signed")) at h (ap (λ t. t ++ Key (codes "signed") ∷ []) at.is) e)
     (λ e. let r = expected lexeme (codes "[") _ q e in more_net most draft net Signed (Bound false) lexeme text q (Sign (codes "[")) at r.0 (ap (λ t. t ++ Sign (codes "[") ∷ []) at.is) r.1))
 
-ranged_sound : (most : ℕ) (draft : Draft) (net : NetKind) (signed : Bool) (kind : Kind) (lexeme : List ℕ) (text : List Token) (q : Parser) → NetAt most draft net (Ranged signed) text → IsOfKind kind lexeme →
+ranged_sound : (most : ℕ) (draft : Draft) (net : NetKind) (signed : Bool) (kind : Kind) (lexeme : List ℕ)
+    (text : List Token) (q : Parser) → NetAt most draft net (Ranged signed) text → IsOfKind kind lexeme →
     net_step draft net (Ranged signed) kind lexeme ≡ Some q → Onward most text lexeme q
 unfolding net_step
 ranged_sound most draft net signed kind lexeme text q at is =
@@ -268,13 +287,16 @@ net_sound most draft net (Bound signed) kind lexeme text q at is e =
     on_count kind lexeme _ q is (λ n written e. more_net most draft net (Bound signed) (Colon signed (n + 1)) lexeme text q (Number n) at written (bound_text net signed n at.own at.is) e) e
 net_sound most draft net (Colon signed width) kind lexeme text q at is e =
     let r = expected lexeme (codes ":") _ q e in
-    more_net most draft net (Colon signed width) (Zero signed width) lexeme text q (Sign (codes ":")) at r.0 (at.is.0, declaration (net_words net) (signed_tokens signed) _ at.own (Sign (codes ":")) at.is.1) r.1
+    more_net most draft net (Colon signed width) (Zero signed width) lexeme text q (Sign (codes ":")) at r.0
+    (at.is.0, declaration (net_words net) (signed_tokens signed) _ at.own (Sign (codes ":")) at.is.1) r.1
 net_sound most draft net (Zero signed width) kind lexeme text q at is e =
     let r = expected lexeme (codes "0") _ q e in
-    more_net most draft net (Zero signed width) (Close signed width) lexeme text q (Key (codes "0")) at r.0 (at.is.0, declaration (net_words net) (signed_tokens signed) _ at.own (Key (codes "0")) at.is.1) r.1
+    more_net most draft net (Zero signed width) (Close signed width) lexeme text q (Key (codes "0")) at r.0
+    (at.is.0, declaration (net_words net) (signed_tokens signed) _ at.own (Key (codes "0")) at.is.1) r.1
 net_sound most draft net (Close signed width) kind lexeme text q at is e =
     let r = expected lexeme (codes "]") _ q e in
-    more_net most draft net (Close signed width) (Named signed width) lexeme text q (Sign (codes "]")) at r.0 (at.is.0, declaration (net_words net) (signed_tokens signed) _ at.own (Sign (codes "]")) at.is.1) r.1
+    more_net most draft net (Close signed width) (Named signed width) lexeme text q (Sign (codes "]")) at r.0
+    (at.is.0, declaration (net_words net) (signed_tokens signed) _ at.own (Sign (codes "]")) at.is.1) r.1
 net_sound most draft net (Named signed width) kind lexeme text q at is e =
     on_name_or kind lexeme _ None q is
     (λ named e. declared_sound most draft net signed width lexeme at.own text _ q at.around at.is.1 (inr (at.is.0, refl)) named e)

@@ -1,5 +1,6 @@
 -- What each lexeme adds after an operand, and at each spot of an expression.
-use Rattle.std.proofs.Common.{◌≡◌, ℕ, ◌+◌, ◌≤◌, ◌⊎◌, Bool, true, false, cond, List, [], ◌∷◌, ◌++◌, map, length, max, fold, Option, Some, None, inl, inr, refl, sym, ◌∙◌, ap, subst, codes, arith, append_assoc, bytes_eq, option_and_then}
+use Rattle.std.proofs.Common.{◌≡◌, ℕ, ◌+◌, ◌≤◌, ◌⊎◌, Bool, true, false, cond, List, [], ◌∷◌, ◌++◌, map, length, max, fold, Option, Some, None, inl, inr, refl, sym, ◌∙◌, ap, subst, codes, arith}
+use Rattle.std.proofs.Common.{append_assoc, bytes_eq, option_and_then}
 use Rattle.std.specs.Prelude.{◌&&◌}
 use Rattle.std.specs.List.{list_all}
 use Rattle.std.proofs.lemmas.Bool.{and_from}
@@ -54,7 +55,9 @@ parts_filled parts value filled here =
     ap (list_all (λ more. more)) (map-append is_filled parts (value ∷ [])) ∙ list_all-append (λ more. more) (map is_filled parts) (is_filled value ∷ [])
     ∙ and_from (list_all (λ more. more) (map is_filled parts)) (is_filled value && true) filled (and_from (is_filled value) true here refl)
 
-concat_filled : (parts : List Expr) (value : Expr) → list_all (λ more. more) (map is_filled (parts ++ value ∷ [])) ≡ true → is_filled_step (map-Expr Expr Bool is_filled (Expr-F.Concat (parts ++ value ∷ []))) ≡ true
+concat_filled : (parts : List Expr) (value : Expr)
+    → list_all (λ more. more) (map is_filled (parts ++ value ∷ [])) ≡ true
+    → is_filled_step (map-Expr Expr Bool is_filled (Expr-F.Concat (parts ++ value ∷ []))) ≡ true
 concat_filled [] value filled = filled
 concat_filled (p ∷ ps) value filled = filled
 
@@ -143,7 +146,8 @@ other_sound draft goal outer test chosen value lexeme text q in_frame =
 
 -- after the first operand in parentheses
 
-left_op : (draft : Draft) (goal : Goal) (outer : List Frame) (value : Expr) (lexeme : List ℕ) (text : List Token) (q : Parser) (op : Option BinOp) (shift : Option ShiftOp) → Inside outer InLeft value text →
+left_op : (draft : Draft) (goal : Goal) (outer : List Frame) (value : Expr) (lexeme : List ℕ) (text : List Token)
+    (q : Parser) (op : Option BinOp) (shift : Option ShiftOp) → Inside outer InLeft value text →
     infix_of lexeme ≡ op → shift_of lexeme ≡ shift → left_by draft goal outer value op shift ≡ Some q → Goes draft goal text lexeme q
 left_op draft goal outer value lexeme text q (Some op) shift in_frame is_op is_shift e =
     goes_to draft goal text lexeme q (outer ++ InRight op value ∷ []) Operand (Sign (binary_text op)) (infix_sound lexeme op is_op)
@@ -200,12 +204,14 @@ pub record Ended (draft : Draft) (goal : Goal) (text : List Token) (lexeme : Lis
   pub good : IsExpr value
   pub goes : goal_step draft goal value lexeme ≡ Some q
 
-ended_with : (draft : Draft) (goal : Goal) (value : Expr) (lexeme : List ℕ) (text : List Token) (q : Parser) → Begun [] (Value value) text → goal_step draft goal value lexeme ≡ Some q → Ended draft goal text lexeme q
+ended_with : (draft : Draft) (goal : Goal) (value : Expr) (lexeme : List ℕ) (text : List Token) (q : Parser)
+    → Begun [] (Value value) text → goal_step draft goal value lexeme ≡ Some q → Ended draft goal text lexeme q
 ended_with draft goal value lexeme text q begun e =
     let good : IsGood 0 value = begun.room in
     record { value = value; is = begun.is; good = (omega (arith, good.0), good.1); goes = e }
 
-value_sound : (draft : Draft) (goal : Goal) (frames : List Frame) (o : Option (List Frame × Frame)) (value : Expr) (lexeme : List ℕ) (text : List Token) (q : Parser) → Begun frames (Value value) text → Splits frames o →
+value_sound : (draft : Draft) (goal : Goal) (frames : List Frame) (o : Option (List Frame × Frame)) (value : Expr)
+    (lexeme : List ℕ) (text : List Token) (q : Parser) → Begun frames (Value value) text → Splits frames o →
     value_step draft goal o value lexeme ≡ Some q → Goes draft goal text lexeme q ⊎ Ended draft goal text lexeme q
 value_sound draft goal frames None value lexeme text q begun is e =
     inr (ended_with draft goal value lexeme text q (subst (λ fs. Begun fs (Value value) text) is begun) e)
@@ -221,7 +227,9 @@ named x name e = let no : ⊥ = cc in absurd no
 named_tokens : (value : Expr) (name : List ℕ) → name_of (out-Expr value) ≡ Some name → expr_tokens value ≡ Identifier name ∷ []
 named_tokens value name e = ap expr_tokens (sym (roll-out-Expr value)) ∙ named (out-Expr value) name e
 
-index_sound : (draft : Draft) (goal : Goal) (frames : List Frame) (value : Expr) (o : Option (List ℕ)) (lexeme : List ℕ) (text : List Token) (q : Parser) → Begun frames (Value value) text → name_of (out-Expr value) ≡ o →
+index_sound : (draft : Draft) (goal : Goal) (frames : List Frame) (value : Expr) (o : Option (List ℕ))
+    (lexeme : List ℕ) (text : List Token) (q : Parser) → Begun frames (Value value) text
+    → name_of (out-Expr value) ≡ o →
     lexeme ≡ codes "[" → indexed draft goal frames o ≡ Some q → Goes draft goal text lexeme q
 index_sound draft goal frames value None lexeme text q begun is h e = nowhere q e
 index_sound draft goal frames value (Some name) lexeme text q begun is h e =
@@ -241,7 +249,9 @@ amount_sound draft goal frames op value amount text begun =
     let good : IsGood (length frames + 1) value = begun.room in
     let x : Expr-F Expr = Expr-F.Shift op value amount in
     record {
-      is = ap (λ t. (t ++ Based amount ∷ []) ++ Sign (codes ")") ∷ []) begun.is ∙ regroup (frames_tokens frames) (expr_tokens value) (Sign (codes "(")) (Sign (shift_text op)) (Based amount) (Sign (codes ")"))
+      is = ap (λ t. (t ++ Based amount ∷ []) ++ Sign (codes ")") ∷ []) begun.is
+          ∙ regroup (frames_tokens frames) (expr_tokens value) (Sign (codes "(")) (Sign (shift_text op))
+          (Based amount) (Sign (codes ")"))
           ∙ ap (λ t. frames_tokens frames ++ t) (layer_text x);
       deep = begun.deep;
       filled = begun.filled;
@@ -251,12 +261,15 @@ amount_sound draft goal frames op value amount text begun =
     regroup : (f a : List Token) (s t u v : Token) → ((f ++ (s ∷ (a ++ t ∷ []))) ++ u ∷ []) ++ v ∷ [] ≡ f ++ (s ∷ (a ++ t ∷ u ∷ v ∷ []))
     regroup f a s t u v = simp append_assoc
 
-low_sound : (frames : List Frame) (name : List ℕ) (high low : ℕ) (text : List Token) → Begun frames (Low name high) text → Begun frames (Ends (roll-Expr (Expr-F.Part name high low)) CloseBracket) (text ++ Number low ∷ [])
+low_sound : (frames : List Frame) (name : List ℕ) (high low : ℕ) (text : List Token)
+    → Begun frames (Low name high) text
+    → Begun frames (Ends (roll-Expr (Expr-F.Part name high low)) CloseBracket) (text ++ Number low ∷ [])
 low_sound frames name high low text begun =
     let x : Expr-F Expr = Expr-F.Part name high low in
     record {
       is = ap (λ t. (t ++ Number low ∷ []) ++ Sign (codes "]") ∷ []) begun.is
-          ∙ regroup (frames_tokens frames) (Identifier name ∷ Sign (codes "[") ∷ Number high ∷ Sign (codes ":") ∷ []) (Number low) (Sign (codes "]")) ∙ ap (λ t. frames_tokens frames ++ t) (layer_text x);
+          ∙ regroup (frames_tokens frames) (Identifier name ∷ Sign (codes "[") ∷ Number high ∷ Sign (codes ":")
+          ∷ []) (Number low) (Sign (codes "]")) ∙ ap (λ t. frames_tokens frames ++ t) (layer_text x);
       deep = begun.deep;
       filled = begun.filled;
       room = good_layer x (length frames) (omega (arith, length_depth frames, begun.deep)) refl;
@@ -266,7 +279,8 @@ low_sound frames name high low text begun =
     regroup f a s t = simp append_assoc
 
 high_sound : (draft : Draft) (goal : Goal) (frames : List Frame) (name : List ℕ) (place : ℕ) (lexeme : List ℕ) (text : List Token) (q : Parser) → Begun frames (High name place) text →
-    cond (bytes_eq lexeme (codes "]")) (spot_at draft goal frames (Value (roll-Expr (Expr-F.Bit name place)))) (cond (bytes_eq lexeme (codes ":")) (spot_at draft goal frames (Low name place)) None) ≡ Some q →
+    cond (bytes_eq lexeme (codes "]")) (spot_at draft goal frames (Value (roll-Expr (Expr-F.Bit name place))))
+    (cond (bytes_eq lexeme (codes ":")) (spot_at draft goal frames (Low name place)) None) ≡ Some q →
     Goes draft goal text lexeme q
 high_sound draft goal frames name place lexeme text q begun =
     let x : Expr-F Expr = Expr-F.Bit name place in
@@ -281,11 +295,15 @@ index_number frames name place text begun =
     record { is = grow (frames_tokens frames) _ _ text (Number place) begun.is refl; deep = begun.deep; filled = begun.filled; room = tt }
 
 -- a number that is wanted is there
-pub on_count : {R : Type 0} (kind : Kind) (lexeme : List ℕ) (f : ℕ → Option Parser) (q : Parser) → IsOfKind kind lexeme → ((n : ℕ) → IsDec n lexeme → f n ≡ Some q → R) → option_and_then f (count_of kind) ≡ Some q → R
+pub on_count : {R : Type 0} (kind : Kind) (lexeme : List ℕ) (f : ℕ → Option Parser) (q : Parser)
+    → IsOfKind kind lexeme → ((n : ℕ) → IsDec n lexeme → f n ≡ Some q → R)
+    → option_and_then f (count_of kind) ≡ Some q → R
 on_count (Count n) lexeme f q is more e = more n is e
 on_count _ lexeme f q is more e = nowhere q e
 
-pub on_constant : {R : Type 0} (kind : Kind) (lexeme : List ℕ) (f : Sized → Option Parser) (q : Parser) → IsOfKind kind lexeme → ((n : Sized) → IsBased n lexeme → f n ≡ Some q → R) → option_and_then f (constant_of kind) ≡ Some q → R
+pub on_constant : {R : Type 0} (kind : Kind) (lexeme : List ℕ) (f : Sized → Option Parser) (q : Parser)
+    → IsOfKind kind lexeme → ((n : Sized) → IsBased n lexeme → f n ≡ Some q → R)
+    → option_and_then f (constant_of kind) ≡ Some q → R
 on_constant (Constant n) lexeme f q is more e = more n is e
 on_constant _ lexeme f q is more e = nowhere q e
 
@@ -305,7 +323,9 @@ spot_sound draft goal frames (Ends value mark) kind lexeme text q begun is e =
     inl (goes_by draft goal text lexeme (bracket_byte mark ∷ []) q frames (Value value) (record { is = begun.is; deep = begun.deep; filled = begun.filled; room = begun.room }) e)
 spot_sound draft goal frames (Amount op value) kind lexeme text q begun is e =
     on_constant kind lexeme _ q is
-    (λ n written e. inl (goes_to draft goal text lexeme q frames (Ends (roll-Expr (Expr-F.Shift op value n)) CloseParenthesis) (Based n) written (amount_sound draft goal frames op value n text begun) e)) e
+    (λ n written e. inl (goes_to draft goal text lexeme q frames
+    (Ends (roll-Expr (Expr-F.Shift op value n)) CloseParenthesis) (Based n) written
+    (amount_sound draft goal frames op value n text begun) e)) e
 spot_sound draft goal frames (Index name) kind lexeme text q begun is e =
     on_count kind lexeme _ q is (λ n written e. inl (goes_to draft goal text lexeme q frames (High name n) (Number n) written (index_number frames name n text begun) e)) e
 spot_sound draft goal frames (High name place) kind lexeme text q begun is e = inl (high_sound draft goal frames name place lexeme text q begun e)

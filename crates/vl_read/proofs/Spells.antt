@@ -9,6 +9,7 @@ use Rattle.vl_read.proofs.TokenReader.{Writes}
 use Rattle.vl_read.proofs.SafeTokens.{module_safe}
 use Rattle.vl_read.proofs.LexemeLayout.{laid}
 
-pub spelled : (bytes : List ℕ) (lexemes : List (List ℕ)) (tokens : List Token) (m : Module) → lexemes_from Between [] bytes ≡ Some lexemes → Writes tokens lexemes → IsModuleText m tokens → Spells bytes m
+pub spelled : (bytes : List ℕ) (lexemes : List (List ℕ)) (tokens : List Token) (m : Module)
+    → lexemes_from Between [] bytes ≡ Some lexemes → Writes tokens lexemes → IsModuleText m tokens → Spells bytes m
 spelled bytes lexemes tokens m read writes grammar =
     record { tokens = tokens; grammar = grammar; layout = laid bytes lexemes tokens (Key []) read writes (module_safe m tokens grammar) }

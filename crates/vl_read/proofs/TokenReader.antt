@@ -38,7 +38,8 @@ next from middle to lexemes between after first second =
 pub same_start : (from other to : Parser) (lexemes : List (List ℕ)) (after : List Token) → parse from lexemes ≡ parse other lexemes → Reads other lexemes to after → Reads from lexemes to after
 same_start from other to lexemes after e reads = record { more = reads.more; writes = reads.writes; same = e ∙ reads.same }
 
-by_step : (from to : Parser) (lexemes more : List (List ℕ)) (lexeme : List ℕ) (tokens : List Token) → lexemes ≡ lexeme ∷ more → step from lexeme ≡ Some to → Writes tokens more → Reads from lexemes to tokens
+by_step : (from to : Parser) (lexemes more : List (List ℕ)) (lexeme : List ℕ) (tokens : List Token)
+    → lexemes ≡ lexeme ∷ more → step from lexeme ≡ Some to → Writes tokens more → Reads from lexemes to tokens
 by_step from to lexemes more lexeme tokens split goes writes =
     record { more = more; writes = writes; same = ap (parse from) split ∙ ap (λ o. option_and_then (λ next. parse next more) o) goes }
 
@@ -48,11 +49,17 @@ sign from to lexemes mark tokens goes w = by_step from to lexemes w.each.1 w.eac
 pub key : (from to : Parser) (lexemes : List (List ℕ)) (word : List ℕ) (tokens : List Token) → step from word ≡ Some to → Writes (Key word ∷ tokens) lexemes → Reads from lexemes to tokens
 key from to lexemes word tokens goes w = by_step from to lexemes w.each.1 w.each.0 tokens w.each.2 (ap (step from) w.each.3 ∙ goes) (later _ _ w.each.4)
 
-pub name : (from to : Parser) (lexemes : List (List ℕ)) (word : List ℕ) (tokens : List Token) → (kind_of word ≡ Name → step from word ≡ Some to) → Writes (Identifier word ∷ tokens) lexemes → Reads from lexemes to tokens
+pub name : (from to : Parser) (lexemes : List (List ℕ)) (word : List ℕ) (tokens : List Token)
+    → (kind_of word ≡ Name → step from word ≡ Some to) → Writes (Identifier word ∷ tokens) lexemes
+    → Reads from lexemes to tokens
 name from to lexemes word tokens goes w = by_step from to lexemes w.each.1 w.each.0 tokens w.each.2 (ap (step from) w.each.3.0 ∙ goes (name_kind word w.each.3.1)) (later _ _ w.each.4)
 
-pub number : (from to : Parser) (lexemes : List (List ℕ)) (n : ℕ) (tokens : List Token) → ((lexeme : List ℕ) → kind_of lexeme ≡ Count n → step from lexeme ≡ Some to) → Writes (Number n ∷ tokens) lexemes → Reads from lexemes to tokens
+pub number : (from to : Parser) (lexemes : List (List ℕ)) (n : ℕ) (tokens : List Token)
+    → ((lexeme : List ℕ) → kind_of lexeme ≡ Count n → step from lexeme ≡ Some to)
+    → Writes (Number n ∷ tokens) lexemes → Reads from lexemes to tokens
 number from to lexemes n tokens goes w = by_step from to lexemes w.each.1 w.each.0 tokens w.each.2 (goes w.each.0 (dec_kind n w.each.0 w.each.3)) (later _ _ w.each.4)
 
-pub based : (from to : Parser) (lexemes : List (List ℕ)) (n : Sized) (tokens : List Token) → ((lexeme : List ℕ) → kind_of lexeme ≡ Constant n → step from lexeme ≡ Some to) → Writes (Based n ∷ tokens) lexemes → Reads from lexemes to tokens
+pub based : (from to : Parser) (lexemes : List (List ℕ)) (n : Sized) (tokens : List Token)
+    → ((lexeme : List ℕ) → kind_of lexeme ≡ Constant n → step from lexeme ≡ Some to)
+    → Writes (Based n ∷ tokens) lexemes → Reads from lexemes to tokens
 based from to lexemes n tokens goes w = by_step from to lexemes w.each.1 w.each.0 tokens w.each.2 (goes w.each.0 (based_kind n w.each.0 w.each.3)) (later _ _ w.each.4)

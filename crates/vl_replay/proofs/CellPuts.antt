@@ -16,7 +16,9 @@ use Rattle.vl_replay.proofs.Cells.{eqb-refl, port-at}
 use Rattle.vl_replay.proofs.Times.{row-room, same-told}
 
 -- what an output shows is the number at its place
-pub number-shown : (m : Module) (row : Row) (place : ℕ) (result : ℤ) → place < length (output_ports m) → ((port : Port) → slice_get (output_ports m) place ≡ Some port → result ≡ port_number port (row port.name)) → result ≡ number_at m row place
+pub number-shown : (m : Module) (row : Row) (place : ℕ) (result : ℤ) → place < length (output_ports m)
+    → ((port : Port) → slice_get (output_ports m) place ≡ Some port → result ≡ port_number port (row port.name))
+    → result ≡ number_at m row place
 number-shown m row place result below shows = let port = port-at (output_ports m) place below in shows port.0 port.1 ∙ sym (ap (number_or_zero row) port.1)
 
 pub equal-test : (a b : ℕ) → a ≡ b → (a == b) ≡ true

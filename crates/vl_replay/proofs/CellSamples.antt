@@ -48,9 +48,12 @@ in-span f late t delay some most =
     parts : (a b c : ℕ) → (a + 1 + b) * c ≡ a * c + c + b * c
     parts a b c = grind arith
 
-module _ (one_run : (m : Module) (count : ℕ) (start : List ℕ → ℕ) (inputs rows other : ℕ → List ℕ → ℕ) → BreaksNone m → Runs m count start inputs rows → Runs m count start inputs other → AreSame m count rows other)
+module _ (one_run : (m : Module) (count : ℕ) (start : List ℕ → ℕ) (inputs rows other : ℕ → List ℕ → ℕ)
+    → BreaksNone m → Runs m count start inputs rows → Runs m count start inputs other → AreSame m count rows other)
     (steps_run : (m : Module) (count : ℕ) (start : List ℕ → ℕ) (inputs rows : ℕ → List ℕ → ℕ) → AreSteps m count start inputs rows → Runs m count start inputs rows)
-    (m : Module) (score : Score) (window delay t : ℕ) (is : IsScoreOf m score) (late : IsDelay score.samplers.items score.stimulus.lines delay) (holds : IsWindow score.samplers.items score.stimulus.lines delay window) (rows : Rows) (cells : List ℤ)
+    (m : Module) (score : Score) (window delay t : ℕ) (is : IsScoreOf m score)
+    (late : IsDelay score.samplers.items score.stimulus.lines delay)
+    (holds : IsWindow score.samplers.items score.stimulus.lines delay window) (rows : Rows) (cells : List ℤ)
     (below : t < score.stimulus.lines)
     (steps : AreSteps m (2 + (t + 1 + delay) * score.cycles) zeros (inputs_of m (numbers_of score.stimulus) score.stimulus.lines) rows)
     (have : HaveCells m score.stimulus.lines window ((t + 1 + delay) * score.cycles) rows cells) where

@@ -1,5 +1,6 @@
 -- The numbers that a clock puts into the cells.
-use Rattle.std.proofs.Common.{◌≡◌, ◌≢◌, ◌<◌, ◌≤◌, ◌+◌, ◌-◌, ◌*◌, ◌/◌, ◌%◌, ◌==◌, ◌⊎◌, inl, inr, ℕ, zero, suc, Bool, true, false, if◌then◌else◌, List, [], ◌∷◌, length, map, slice_get, slice_index_or, Some, ℤ, pos, refl, sym, ap, subst, ◌∙◌, arith}
+use Rattle.std.proofs.Common.{◌≡◌, ◌≢◌, ◌<◌, ◌≤◌, ◌+◌, ◌-◌, ◌*◌, ◌/◌, ◌%◌, ◌==◌, ◌⊎◌, inl, inr, ℕ, zero, suc, Bool, true, false, if◌then◌else◌, List, [], ◌∷◌, length, map, slice_get, slice_index_or}
+use Rattle.std.proofs.Common.{Some, ℤ, pos, refl, sym, ap, subst, ◌∙◌, arith}
 use Rattle.std.proofs.lemmas.Bool.{cases_lt, eqb-true, eqb-false, false≢true}
 use Rattle.std.proofs.lemmas.Nat.{mod_below, div-add-mod'}
 use Rattle.std.proofs.lemmas.List.{length-map}
@@ -124,7 +125,9 @@ module _ (m : Module) (samples window sample phase : ℕ) (rows later : Rows) (r
     now-is t below p q =
         subst (λ (n : ℕ). slice_index_or after (t % window * n + place) (pos 0) ≡ wanted t) many
         (put.put place (sampler_of f port) t sampled (subst (λ n. place < n) (sym many) (there_within outputs place port there)) below p q
-        ∙ subst (λ (n : ℕ). (if hit_at period t == t then number_at m row place else slice_index_or before ((t - 1) % window * n + place) (pos 0)) ≡ wanted t) (sym many) (due t below p q (hit_at period t == t) refl))
+        ∙ subst (λ (n : ℕ). (if hit_at period t == t then number_at m row place else slice_index_or before
+        ((t - 1) % window * n + place) (pos 0)) ≡ wanted t) (sym many)
+        (due t below p q (hit_at period t == t) refl))
 
     after-is : (t : ℕ) → t < samples → t * f + late < now + 1 → (t + window < samples → now + 1 ≤ (t + window) * f + late) → cell after t ≡ wanted t
     after-is t below past held = by (cases_lt (t * f + late) now) where

@@ -47,7 +47,9 @@ module _ (m : Module) (score : Score) (window : ℕ) (is : IsScoreOf m score) (f
     at = λ place port there t below past. absurd (omega (arith, past));
   }
 
-module _ (m : Module) (score : Score) (window : ℕ) (some-window : 0 < window) (is : IsScoreOf m score) (sample phase : ℕ) (phase-below : phase < score.cycles) (rows : Rows) (row next : Row) (bits : List ℕ) (before after : List ℤ)
+module _ (m : Module) (score : Score) (window : ℕ) (some-window : 0 < window) (is : IsScoreOf m score)
+    (sample phase : ℕ) (phase-below : phase < score.cycles) (rows : Rows) (row next : Row) (bits : List ℕ)
+    (before after : List ℤ)
     (steps : AreSteps m (2 + (sample * score.cycles + phase)) zeros (inputs_of m (numbers_of score.stimulus) score.stimulus.lines) rows)
     (last : rows (1 + (sample * score.cycles + phase)) ≡ row)
     (have : HaveCells m score.stimulus.lines window (sample * score.cycles + phase) rows before)
@@ -105,11 +107,14 @@ module _ (m : Module) (score : Score) (window : ℕ) (some-window : 0 < window) 
           (subst (λ f. phase < f) is.cycles phase-below) some-window is.samplers
           (subst (λ f. HaveCells m score.stimulus.lines window (sample * f + phase) rows before) is.cycles have)
           (λ k below. before-place rows (1 + (1 + clock)) next k (let e = ap (λ f. sample * f) is.cycles in omega (arith, below, e)))
-          (let e : 2 + (sample * clocks_of m + phase) ≡ 1 + (1 + clock) = (let s = ap (λ f. sample * f) is.cycles in omega (arith, s)) in ap (with_row rows (1 + (1 + clock)) next) e ∙ at-place rows (1 + (1 + clock)) next)
+          (let e : 2 + (sample * clocks_of m + phase) ≡ 1 + (1 + clock) =
+          (let s = ap (λ f. sample * f) is.cycles in omega (arith, s)) in
+          ap (with_row rows (1 + (1 + clock)) next) e ∙ at-place rows (1 + (1 + clock)) next)
           put
 
 -- the machine after the row with `reset`
-pub begun : (score : Score) (window : ℕ) (machine later : Machine) (bits : List ℕ) (cells : List ℤ) → 0 < window → IsScoreOf (source_of machine) score → source_of later ≡ source_of machine → IsReady later
+pub begun : (score : Score) (window : ℕ) (machine later : Machine) (bits : List ℕ) (cells : List ℤ) → 0 < window
+    → IsScoreOf (source_of machine) score → source_of later ≡ source_of machine → IsReady later
     → IsFirstRow (source_of machine) zeros zeros (row_of machine) → AreBits reset_bits score.drivers.items (length score.drivers.items) bits
     → IsEdge (source_of machine) (row_of machine) (given (driven_ports (source_of machine)) bits) (row_of later) → length cells ≡ window * length score.samplers.items
     → IsPlayed score window 0 later cells
@@ -121,13 +126,17 @@ begun score window machine later bits cells some is same ready first are edge ro
       score_is = subst (λ n. IsScoreOf n score) (sym same) is;
       some = some;
       rows = rows;
-      steps = subst (λ n. AreSteps n (2 + 0) zeros (inputs_of n (numbers_of score.stimulus) score.stimulus.lines) rows) (sym same) (begun-steps m score window is (row_of machine) (row_of later) bits cells first are edge room);
+      steps = subst (λ n. AreSteps n (2 + 0) zeros
+          (inputs_of n (numbers_of score.stimulus) score.stimulus.lines) rows) (sym same)
+          (begun-steps m score window is (row_of machine) (row_of later) bits cells first are edge room);
       last = begun-last m score window is (row_of machine) (row_of later) bits cells first are edge room;
       have = subst (λ n. HaveCells n score.stimulus.lines window 0 rows cells) (sym same) (begun-cells m score window is (row_of machine) (row_of later) bits cells first are edge room rows);
     }
 
 -- and after one clock more
-pub played-more : (score : Score) (window : ℕ) (sample phase : ℕ) (machine later : Machine) (bits : List ℕ) (before after : List ℤ) → IsPlayed score window (sample * score.cycles + phase) machine before → phase < score.cycles
+pub played-more : (score : Score) (window : ℕ) (sample phase : ℕ) (machine later : Machine) (bits : List ℕ)
+    (before after : List ℤ) → IsPlayed score window (sample * score.cycles + phase) machine before
+    → phase < score.cycles
     → AreBits (driver_bits (numbers_of score.stimulus) score.stimulus.lines sample) score.drivers.items (length score.drivers.items) bits
     → source_of later ≡ source_of machine → IsReady later
     → IsEdge (source_of machine) (row_of machine) (given (driven_ports (source_of machine)) bits) (row_of later)
@@ -136,7 +145,8 @@ pub played-more : (score : Score) (window : ℕ) (sample phase : ℕ) (machine l
 played-more score window sample phase machine later bits before after played below are same ready edge put =
     let m = source_of machine in
     let put' = subst (λ n. ArePut (number_at n (row_of later)) score.samplers.items score.stimulus.lines window sample phase (length score.samplers.items) before after) same put in
-    let rows = more-rows m score window played.some played.score_is sample phase below played.rows (row_of machine) (row_of later) bits before after played.steps played.last played.have are edge put' in
+    let rows = more-rows m score window played.some played.score_is sample phase below played.rows (row_of machine)
+    (row_of later) bits before after played.steps played.last played.have are edge put' in
     record {
       ready = ready;
       score_is = subst (λ n. IsScoreOf n score) (sym same) played.score_is;

@@ -1,5 +1,6 @@
 -- Two tables that are sampled of a module under one stimulus have the same numbers.
-use Rattle.std.proofs.Common.{◌≡◌, ◌<◌, ◌≤◌, ◌+◌, ◌*◌, ◌/◌, ◌%◌, ⊎_elim, inl, inr, ◌⊎◌, ℕ, zero, suc, Bool, true, false, not, ◌&&◌, ◌||◌, if◌then◌else◌, List, [], ◌∷◌, length, find, get_or, map, flat_map, slice_get, Contains, bytes_eq, codes, Option, None, Some, is_none, unwrap_or, ℤ, pos, refl, sym, ap, subst, ◌∙◌, arith}
+use Rattle.std.proofs.Common.{◌≡◌, ◌<◌, ◌≤◌, ◌+◌, ◌*◌, ◌/◌, ◌%◌, ⊎_elim, inl, inr, ◌⊎◌, ℕ, zero, suc, Bool, true, false, not, ◌&&◌, ◌||◌, if◌then◌else◌, List, [], ◌∷◌, length, find, get_or, map}
+use Rattle.std.proofs.Common.{flat_map, slice_get, Contains, bytes_eq, codes, Option, None, Some, is_none, unwrap_or, ℤ, pos, refl, sym, ap, subst, ◌∙◌, arith}
 use Rattle.std.proofs.lemmas.Bool.{and_parts, cases_Bool, cases_lt, or_parts, not-true}
 use Rattle.std.proofs.lemmas.List.{ext_get_or}
 use Rattle.std.proofs.lemmas.List.Elements.{Contains-append_left}
@@ -74,7 +75,8 @@ ShowRow m count rows t numbers = (cycles : ℕ) → cycles_of m ≡ Some cycles 
     → (row_at (window_of count) (hit_at period t * cycles + latency) < count)
     × (slice_get numbers place ≡ Some (port_number port (rows (row_at (window_of count) (hit_at period t * cycles + latency)) port.name))))
 
-module _ (one_run : (m : Module) (count : ℕ) (start : List ℕ → ℕ) (inputs rows other : ℕ → List ℕ → ℕ) → BreaksNone m → Runs m count start inputs rows → Runs m count start inputs other → AreSame m count rows other)
+module _ (one_run : (m : Module) (count : ℕ) (start : List ℕ → ℕ) (inputs rows other : ℕ → List ℕ → ℕ)
+    → BreaksNone m → Runs m count start inputs rows → Runs m count start inputs other → AreSame m count rows other)
     (m : Module) (sound : BreaksNone m) (stimulus : PortNumbers) (samples : ℕ) where
   both-attributes : (is_none (cycles_of m) ≡ false) × (find (lacks_attribute (is_stallable m)) m.ports ≡ None)
   both-attributes = attributed (cycles_of m) (find (lacks_attribute (is_stallable m)) m.ports) m.name sound.attributed
@@ -92,12 +94,16 @@ module _ (one_run : (m : Module) (count : ℕ) (start : List ℕ → ℕ) (input
   input-period port c input other =
       there-is (period_of port) (by port.input (is_control_input stalls port) (is_control_output stalls port) (not-lacking stalls m.ports both-attributes.1 port c) input other)
     where
-      by : (i r o : Bool) → (if i then not r && is_none (period_of port) else not o && (is_none (period_of port) || is_none (latency_of port))) ≡ false → i ≡ true → r ≡ false → is_none (period_of port) ≡ false
+      by : (i r o : Bool) → (if i then not r && is_none (period_of port) else not o
+          && (is_none (period_of port) || is_none (latency_of port))) ≡ false → i ≡ true → r ≡ false
+          → is_none (period_of port) ≡ false
       by true false o e i r = e
       by true true o e i r = absurd (cc r)
       by false r o e i n = absurd (cc i)
 
-  output-has : (port : Port) → Contains m.ports port → port.input ≡ false → is_control_output (is_stallable m) port ≡ false → ((n : ℕ) × (period_of port ≡ Some n)) × ((n : ℕ) × (latency_of port ≡ Some n))
+  output-has : (port : Port) → Contains m.ports port → port.input ≡ false
+      → is_control_output (is_stallable m) port ≡ false
+      → ((n : ℕ) × (period_of port ≡ Some n)) × ((n : ℕ) × (latency_of port ≡ Some n))
   output-has port c output other =
       let neither = by port.input (is_control_input stalls port) (is_control_output stalls port) (not-lacking stalls m.ports both-attributes.1 port c) output other in
       let parts = or_parts (is_none (period_of port)) (is_none (latency_of port)) neither in
@@ -110,7 +116,9 @@ module _ (one_run : (m : Module) (count : ℕ) (start : List ℕ → ℕ) (input
       by false r false e i f = e
 
   module _ (count other-count : ℕ) (inputs other : Rows) (a : AreReplayed m stimulus samples count inputs) (b : AreReplayed m stimulus samples other-count other) where
-    at-clock : (clock : ℕ) → suc (suc clock) < count → suc (suc clock) < other-count → (port : Port) → Contains m.ports port → port.input ≡ true → is_control_input (is_stallable m) port ≡ false → inputs (suc (suc clock)) port.name ≡ other (suc (suc clock)) port.name
+    at-clock : (clock : ℕ) → suc (suc clock) < count → suc (suc clock) < other-count → (port : Port)
+        → Contains m.ports port → port.input ≡ true → is_control_input (is_stallable m) port ≡ false
+        → inputs (suc (suc clock)) port.name ≡ other (suc (suc clock)) port.name
     at-clock clock low low' port c input neither =
         let period = input-period port c input neither in
         let more : 1 ≤ period.0 = (let s = (step-some port).0 in let e = ap (λ o. unwrap_or o 1) period.1 in omega (arith, s, e)) in
@@ -120,8 +128,12 @@ module _ (one_run : (m : Module) (count : ℕ) (start : List ℕ → ℕ) (input
         let within = frame cycles.0 period.0 clock some-cycles more in
         let is-hit = last-is-hit period.0 (clock / cycles.0) more in
         let at : inputs (1 + 1 + clock) port.name ≡ other (1 + 1 + clock) port.name = ⊎_elim
-        (λ below. a.driven.shows cycles.0 cycles.1 found.0 port found.1 period.0 period.1 hit below is-hit clock clock within.0 within.1 (place-clock m (window_of count) inputs (all-count m count inputs a.enabled) clock (omega (arith, low)))
-        ∙ sym (b.driven.shows cycles.0 cycles.1 found.0 port found.1 period.0 period.1 hit below is-hit clock clock within.0 within.1 (place-clock m (window_of other-count) other (all-count m other-count other b.enabled) clock (omega (arith, low')))))
+        (λ below. a.driven.shows cycles.0 cycles.1 found.0 port found.1 period.0 period.1 hit below is-hit clock
+        clock within.0 within.1 (place-clock m (window_of count) inputs
+        (all-count m count inputs a.enabled) clock (omega (arith, low)))
+        ∙ sym (b.driven.shows cycles.0 cycles.1 found.0 port found.1 period.0 period.1 hit below is-hit clock clock
+        within.0 within.1 (place-clock m (window_of other-count) other
+        (all-count m other-count other b.enabled) clock (omega (arith, low')))))
         (λ past. a.idle cycles.0 cycles.1 found.0 port found.1 period.0 period.1 clock (omega (arith, low)) past
         ∙ sym (b.idle cycles.0 cycles.1 found.0 port found.1 period.0 period.1 clock (omega (arith, low')) past))
         (cases_lt hit samples) in
@@ -134,20 +146,28 @@ module _ (one_run : (m : Module) (count : ℕ) (start : List ℕ → ℕ) (input
         ap (inputs 1) name ∙ a.driven.reset.reset ∙ sym b.driven.reset.reset ∙ ap (other 1) (sym name))
         (λ isnt. a.reset port c input isnt ∙ sym (b.reset port c input isnt))
         (cases_Bool (bytes_eq port.name (codes "reset")))
-    inputs-agree (suc (suc clock)) low low' port c input = by (is_stallable m && bytes_eq port.name (codes "clk_enable")) (bytes_eq port.name (codes "clk")) (bytes_eq port.name (codes "reset")) refl refl refl where
-      by : (enable clk reset : Bool) → (is_stallable m && bytes_eq port.name (codes "clk_enable")) ≡ enable → bytes_eq port.name (codes "clk") ≡ clk → bytes_eq port.name (codes "reset") ≡ reset
-          → inputs (suc (suc clock)) port.name ≡ other (suc (suc clock)) port.name
-      by true clk reset ee ec er =
-          let parts = and_parts (is_stallable m) (bytes_eq port.name (codes "clk_enable")) ee in
-          let name = (bytes_eq-Decides port.name (codes "clk_enable")).0 parts.1 in
-          ap (inputs (suc (suc clock))) name ∙ a.enabled parts.0 (suc (suc clock)) (omega arith) low ∙ sym (b.enabled parts.0 (suc (suc clock)) (omega arith) low') ∙ ap (other (suc (suc clock))) (sym name)
-      by false clk true ee ec er = let name = (bytes_eq-Decides port.name (codes "reset")).0 er in
-          ap (inputs (suc (suc clock))) name ∙ a.driven.reset.released (suc (suc clock)) (omega arith) low ∙ sym (b.driven.reset.released (suc (suc clock)) (omega arith) low') ∙ ap (other (suc (suc clock))) (sym name)
-      by false true false ee ec er = let name = (bytes_eq-Decides port.name (codes "clk")).0 ec in
-          ap (inputs (suc (suc clock))) name ∙ a.clock (suc (suc clock)) low ∙ sym (b.clock (suc (suc clock)) low') ∙ ap (other (suc (suc clock))) (sym name)
-      by false false false ee ec er = at-clock clock low low' port c input (rw (ee, ec, er) refl)
+    inputs-agree (suc (suc clock)) low low' port c input =
+        by (is_stallable m && bytes_eq port.name (codes "clk_enable")) (bytes_eq port.name (codes "clk"))
+        (bytes_eq port.name (codes "reset")) refl refl refl where
+          by : (enable clk reset : Bool) → (is_stallable m && bytes_eq port.name (codes "clk_enable")) ≡ enable → bytes_eq port.name (codes "clk") ≡ clk → bytes_eq port.name (codes "reset") ≡ reset
+              → inputs (suc (suc clock)) port.name ≡ other (suc (suc clock)) port.name
+          by true clk reset ee ec er =
+              let parts = and_parts (is_stallable m) (bytes_eq port.name (codes "clk_enable")) ee in
+              let name = (bytes_eq-Decides port.name (codes "clk_enable")).0 parts.1 in
+              ap (inputs (suc (suc clock))) name ∙ a.enabled parts.0 (suc (suc clock)) (omega arith) low
+              ∙ sym (b.enabled parts.0 (suc (suc clock)) (omega arith) low')
+              ∙ ap (other (suc (suc clock))) (sym name)
+          by false clk true ee ec er = let name = (bytes_eq-Decides port.name (codes "reset")).0 er in
+              ap (inputs (suc (suc clock))) name ∙ a.driven.reset.released (suc (suc clock)) (omega arith) low
+              ∙ sym (b.driven.reset.released (suc (suc clock)) (omega arith) low')
+              ∙ ap (other (suc (suc clock))) (sym name)
+          by false true false ee ec er = let name = (bytes_eq-Decides port.name (codes "clk")).0 ec in
+              ap (inputs (suc (suc clock))) name ∙ a.clock (suc (suc clock)) low ∙ sym (b.clock (suc (suc clock)) low') ∙ ap (other (suc (suc clock))) (sym name)
+          by false false false ee ec er = at-clock clock low low' port c input (rw (ee, ec, er) refl)
 
-    rows-agree : (rows later : Rows) → Runs m count zeros inputs rows → Runs m other-count zeros other later → (k : ℕ) → k < count → k < other-count → (port : Port) → Contains m.ports port → rows k port.name ≡ later k port.name
+    rows-agree : (rows later : Rows) → Runs m count zeros inputs rows → Runs m other-count zeros other later
+        → (k : ℕ) → k < count → k < other-count → (port : Port) → Contains m.ports port
+        → rows k port.name ≡ later k port.name
     rows-agree rows later runs runs' k low low' port c =
         one_run m (suc k) zeros inputs rows later sound
         (record {
@@ -168,7 +188,9 @@ module _ (one_run : (m : Module) (count : ℕ) (start : List ℕ → ℕ) (input
       where
         declared : Contains (declarations m) (port_declared port)
         declared = flat-in declared_by (mentions m) (Declares (port_declared port)) (port_declared port)
-            (Contains-append_left (map (λ (p : Port). Declares (port_declared p)) m.ports) (flat_map item_mentions m.items) (Declares (port_declared port)) (map-in (λ (p : Port). Declares (port_declared p)) m.ports port c))
+            (Contains-append_left (map (λ (p : Port). Declares (port_declared p)) m.ports)
+            (flat_map item_mentions m.items) (Declares (port_declared port))
+            (map-in (λ (p : Port). Declares (port_declared p)) m.ports port c))
             (head-in (port_declared port) [])
 
   -- two lists of numbers that show two runs at one sample are the same

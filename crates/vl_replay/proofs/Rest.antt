@@ -37,7 +37,9 @@ past-later samples from later Enable more past = tt
 past-later samples from later (Column place period width) more past = omega (arith, more, past)
 
 -- past the stimulus the bits stay
-still : (numbers : PortNumbers) (samples columns from s : ℕ) (driver : Driver) → IsWithin columns driver → IsPast samples from driver → from ≤ s → driver_bits numbers samples s driver ≡ driver_bits numbers samples from driver
+still : (numbers : PortNumbers) (samples columns from s : ℕ) (driver : Driver) → IsWithin columns driver
+    → IsPast samples from driver → from ≤ s
+    → driver_bits numbers samples s driver ≡ driver_bits numbers samples from driver
 still numbers samples columns from s Reset within past later = refl
 still numbers samples columns from s Enable within past later = refl
 still numbers samples columns from s (Column place period width) within past later = none s (omega (arith, later, past)) ∙ sym (none from past) where
@@ -53,7 +55,9 @@ map-same f g (x ∷ xs) each = ap (λ y. y ∷ map f xs) (each 0 x refl) ∙ ap 
 -- the cells stay those of a run that goes on, where no output is due
 cells-stay : (m : Module) (samples window from until : ℕ) (rows later : Rows) (cells : List ℤ)
     → ((place : ℕ) (port : Port) → slice_get (output_ports m) place ≡ Some port → lateness_of port / clocks_of m < until → samples + lateness_of port / clocks_of m ≤ from)
-    → from ≤ until → ((k : ℕ) → k ≤ 1 + from * clocks_of m → later k ≡ rows k) → HaveCells m samples window (from * clocks_of m) rows cells → HaveCells m samples window (until * clocks_of m) later cells
+    → from ≤ until → ((k : ℕ) → k ≤ 1 + from * clocks_of m → later k ≡ rows k)
+    → HaveCells m samples window (from * clocks_of m) rows cells
+    → HaveCells m samples window (until * clocks_of m) later cells
 cells-stay m samples window from until rows later cells due ordered same have = record {
   long = have.long;
   at = λ place port there t below past held.
@@ -64,7 +68,9 @@ cells-stay m samples window from until rows later cells due ordered same have = 
       ∙ ap (λ (r : Row). port_number port (r port.name)) (sym (same (2 + (hit_at (step_of port) t * clocks_of m + lateness_of port)) (omega (arith, h, less))));
 }
   where
-    before : (place : ℕ) (port : Port) → slice_get (output_ports m) place ≡ Some port → (t : ℕ) → t < samples → t * clocks_of m + lateness_of port < until * clocks_of m → t * clocks_of m + lateness_of port < from * clocks_of m
+    before : (place : ℕ) (port : Port) → slice_get (output_ports m) place ≡ Some port → (t : ℕ) → t < samples
+        → t * clocks_of m + lateness_of port < until * clocks_of m
+        → t * clocks_of m + lateness_of port < from * clocks_of m
     before place port there t below past = by (cases_lt (t * clocks_of m + lateness_of port) (from * clocks_of m)) where
       by : (t * clocks_of m + lateness_of port < from * clocks_of m) ⊎ (from * clocks_of m ≤ t * clocks_of m + lateness_of port) → t * clocks_of m + lateness_of port < from * clocks_of m
       by (inl less) = less
@@ -171,7 +177,8 @@ module _ (m : Module) (score : Score) (is : IsScoreOf m score) (from until : ℕ
           (ap (λ xs. slice_get xs place) is.samplers ∙ there_map (sampler_of (clocks_of m)) (output_ports m) place port there) less
 
 -- it has passed the clocks up to the later sample
-pub rested : (score : Score) (window from until : ℕ) (machine later : Machine) (bits : List ℕ) (cells : List ℤ) → IsPlayed score window (from * score.cycles) machine cells → IsQuiet score from until → from ≤ until
+pub rested : (score : Score) (window from until : ℕ) (machine later : Machine) (bits : List ℕ) (cells : List ℤ)
+    → IsPlayed score window (from * score.cycles) machine cells → IsQuiet score from until → from ≤ until
     → AreBits (driver_bits (numbers_of score.stimulus) score.stimulus.lines from) score.drivers.items (length score.drivers.items) bits
     → source_of later ≡ source_of machine → IsReady later → Leads (source_of machine) (given (driven_ports (source_of machine)) bits) (row_of machine) ((until - from) * score.cycles) (row_of later)
     → IsPlayed score window (until * score.cycles) later cells

@@ -55,7 +55,9 @@ module _ (m : Module) (inputs : Row) where
       by k below (inr from) =
           let next : k + 1 - count ≡ k - count + 1 = omega (arith, from) in
           subst (λ (r : Row). IsEdge m r inputs (joined one.rows count other.rows (k + 1))) (sym (joined-from one.rows count other.rows k from))
-          (subst (λ (r : Row). IsEdge m (other.rows (k - count)) inputs r) (sym (joined-from one.rows count other.rows (k + 1) (omega (arith, from)) ∙ ap other.rows next)) (other.edges (k - count) (omega (arith, from, below))))
+          (subst (λ (r : Row). IsEdge m (other.rows (k - count)) inputs r)
+          (sym (joined-from one.rows count other.rows (k + 1) (omega (arith, from)) ∙ ap other.rows next))
+          (other.edges (k - count) (omega (arith, from, below))))
 
   pub leads-one : (first last : Row) → IsEdge m first inputs last → Leads m inputs first 1 last
   leads-one first last edge = record {
@@ -97,7 +99,9 @@ module _ (m : Module) (inputs : Row) where
   }
 
   module _ (first : Row) (count since : ℕ) (machine : Machine) (snapshot : Snapshot) (is : IsSince m inputs first count since machine snapshot) where
-    pub since-more : (later : Machine) → IsEdge m (row_of machine) inputs (row_of later) → ((row : Row) → IsKept machine snapshot row → IsKept later snapshot row) → IsSince m inputs first (count + 1) (since + 1) later snapshot
+    pub since-more : (later : Machine) → IsEdge m (row_of machine) inputs (row_of later)
+        → ((row : Row) → IsKept machine snapshot row → IsKept later snapshot row)
+        → IsSince m inputs first (count + 1) (since + 1) later snapshot
     since-more later edge stays = record {
       row = is.row;
       kept = stays is.row is.kept;
@@ -132,12 +136,17 @@ module _ (m : Module) (inputs : Row) where
         subst (λ n. Leads m inputs first n (row_of machine)) e (leads-on first count (row_of machine) (times * since) (row_of machine) since-all rounds)
 
 -- an edge of the machine's module is one of that with which it began
-pub edge-of : (m : Module) (bits : List ℕ) (machine later : Machine) → source_of machine ≡ m → IsEdge (source_of machine) (row_of machine) (given (driven_ports (source_of machine)) bits) (row_of later)
+pub edge-of : (m : Module) (bits : List ℕ) (machine later : Machine) → source_of machine ≡ m
+    → IsEdge (source_of machine) (row_of machine) (given (driven_ports (source_of machine)) bits) (row_of later)
     → IsEdge m (row_of machine) (given (driven_ports m) bits) (row_of later)
 edge-of m bits machine later same edge = subst (λ (n : Module). IsEdge n (row_of machine) (given (driven_ports n) bits) (row_of later)) same edge
 
 -- one such edge more
-pub since-edge : (m : Module) (bits : List ℕ) (first : Row) (count since : ℕ) (machine : Machine) (snapshot : Snapshot) → IsSince m (given (driven_ports m) bits) first count since machine snapshot → (later : Machine) → source_of machine ≡ m
+pub since-edge : (m : Module) (bits : List ℕ) (first : Row) (count since : ℕ) (machine : Machine)
+    (snapshot : Snapshot) → IsSince m (given (driven_ports m) bits) first count since machine snapshot
+    → (later : Machine) → source_of machine ≡ m
     → IsEdge (source_of machine) (row_of machine) (given (driven_ports (source_of machine)) bits) (row_of later) → ((row : Row) → IsKept machine snapshot row → IsKept later snapshot row)
     → IsSince m (given (driven_ports m) bits) first (count + 1) (since + 1) later snapshot
-since-edge m bits first count since machine snapshot is later same edge stays = since-more m (given (driven_ports m) bits) first count since machine snapshot is later (edge-of m bits machine later same edge) stays
+since-edge m bits first count since machine snapshot is later same edge stays =
+    since-more m (given (driven_ports m) bits) first count since machine snapshot is later
+    (edge-of m bits machine later same edge) stays

@@ -1,5 +1,6 @@
 -- What a score has, and the bits that it gives.
-use Rattle.std.proofs.Common.{◌≡◌, ◌<◌, ◌≤◌, ◌+◌, ◌^◌, if◌then◌else◌, inl, inr, ℕ, zero, suc, Bool, true, false, List, [], ◌∷◌, length, map, filter, slice_get, Contains, bytes_eq, codes, Some, refl, sym, ap, subst, ◌∙◌, arith}
+use Rattle.std.proofs.Common.{◌≡◌, ◌<◌, ◌≤◌, ◌+◌, ◌^◌, if◌then◌else◌, inl, inr, ℕ, zero, suc, Bool, true, false, List, [], ◌∷◌, length, map, filter, slice_get, Contains, bytes_eq, codes, Some, refl}
+use Rattle.std.proofs.Common.{sym, ap, subst, ◌∙◌, arith}
 use Rattle.std.proofs.lemmas.Bool.{cond-true, cond-false}
 use Rattle.std.proofs.lemmas.List.{length-map}
 use Rattle.std.proofs.Math.Nat.{div-le_self}
@@ -34,48 +35,82 @@ mapped-back f P (x ∷ xs) each zero y e = subst P (cc e) (each x)
 mapped-back f P (x ∷ xs) each (suc k) y e = mapped-back f P xs each k y e
 
 -- the drivers' columns stand among those of the stimulus
-within-from : (stalls : Bool) (ports : List Port) → Narrow ports → (offset all : ℕ) → offset + length (filter (is_number_input stalls) ports) ≤ all → (k : ℕ) (driver : Driver) → slice_get (drivers_from stalls offset (filter is_driven ports)) k ≡ Some driver → IsWithin all driver
+within-from : (stalls : Bool) (ports : List Port) → Narrow ports → (offset all : ℕ)
+    → offset + length (filter (is_number_input stalls) ports) ≤ all → (k : ℕ) (driver : Driver)
+    → slice_get (drivers_from stalls offset (filter is_driven ports)) k ≡ Some driver → IsWithin all driver
 within-from stalls [] narrow offset all fits k driver e = absurd (cc e)
-within-from stalls (first ∷ ports) narrow offset all fits k driver e = by (λ offset fits k. within-from stalls ports (λ port c. narrow port (tail-in first port ports c)) offset all fits k driver) first.input (bytes_eq first.name (codes "clk")) (is_own stalls first) refl refl refl where
-  skipped : ((offset : ℕ) → offset + length (filter (is_number_input stalls) ports) ≤ all → (k : ℕ) → slice_get (drivers_from stalls offset (filter is_driven ports)) k ≡ Some driver → IsWithin all driver)
-      → is_number_input stalls first ≡ false → is_driven first ≡ false → IsWithin all driver
-  skipped rest s d =
-      let shorter : length (filter (is_number_input stalls) (first ∷ ports)) ≡ length (filter (is_number_input stalls) ports) = ap length (cond-false (is_number_input stalls first) (first ∷ filter (is_number_input stalls) ports) (filter (is_number_input stalls) ports) s) in
-      let whole : filter is_driven (first ∷ ports) ≡ filter is_driven ports = cond-false (is_driven first) (first ∷ filter is_driven ports) (filter is_driven ports) d in
-      rest offset (omega (arith, fits, shorter)) k (subst (λ xs. slice_get (drivers_from stalls offset xs) k ≡ Some driver) whole e)
+within-from stalls (first ∷ ports) narrow offset all fits k driver e =
+    by (λ offset fits k. within-from stalls ports
+    (λ port c. narrow port (tail-in first port ports c)) offset all fits k driver) first.input
+    (bytes_eq first.name (codes "clk")) (is_own stalls first) refl refl refl where
+      skipped : ((offset : ℕ) → offset + length (filter (is_number_input stalls) ports) ≤ all → (k : ℕ)
+          → slice_get (drivers_from stalls offset (filter is_driven ports)) k ≡ Some driver → IsWithin all driver)
+          → is_number_input stalls first ≡ false → is_driven first ≡ false → IsWithin all driver
+      skipped rest s d =
+          let shorter : length (filter (is_number_input stalls) (first ∷ ports))
+          ≡ length (filter (is_number_input stalls) ports) =
+          ap length (cond-false (is_number_input stalls first) (first ∷ filter (is_number_input stalls) ports)
+          (filter (is_number_input stalls) ports) s) in
+          let whole : filter is_driven (first ∷ ports) ≡ filter is_driven ports = cond-false (is_driven first) (first ∷ filter is_driven ports) (filter is_driven ports) d in
+          rest offset (omega (arith, fits, shorter)) k (subst (λ xs. slice_get (drivers_from stalls offset xs) k ≡ Some driver) whole e)
 
-  own-within : (t : Bool) → IsWithin all (if t then Reset else Enable)
-  own-within true = tt
-  own-within false = tt
+      own-within : (t : Bool) → IsWithin all (if t then Reset else Enable)
+      own-within true = tt
+      own-within false = tt
 
-  passed : ((offset : ℕ) → offset + length (filter (is_number_input stalls) ports) ≤ all → (k : ℕ) → slice_get (drivers_from stalls offset (filter is_driven ports)) k ≡ Some driver → IsWithin all driver)
-      → is_number_input stalls first ≡ false → is_driven first ≡ true → is_own stalls first ≡ true → (k : ℕ) → slice_get (driver_of stalls offset first ∷ drivers_from stalls (place_after stalls offset first) (filter is_driven ports)) k ≡ Some driver → IsWithin all driver
-  passed rest s d r zero f = subst (λ (x : Driver). IsWithin all x) (cc f) (subst (λ (x : Driver). IsWithin all x) (sym (cond-true (is_own stalls first) (own_driver first) (Column offset (step_of first) first.width) r)) (own-within (is_reset first)))
-  passed rest s d r (suc k) f =
-      let shorter : length (filter (is_number_input stalls) (first ∷ ports)) ≡ length (filter (is_number_input stalls) ports) = ap length (cond-false (is_number_input stalls first) (first ∷ filter (is_number_input stalls) ports) (filter (is_number_input stalls) ports) s) in
-      let next : place_after stalls offset first ≡ offset = cond-true (is_own stalls first) offset (offset + 1) r in
-      rest offset (omega (arith, fits, shorter)) k (subst (λ o. slice_get (drivers_from stalls o (filter is_driven ports)) k ≡ Some driver) next f)
+      passed : ((offset : ℕ) → offset + length (filter (is_number_input stalls) ports) ≤ all → (k : ℕ)
+          → slice_get (drivers_from stalls offset (filter is_driven ports)) k ≡ Some driver → IsWithin all driver)
+          → is_number_input stalls first ≡ false → is_driven first ≡ true → is_own stalls first ≡ true → (k : ℕ)
+          → slice_get (driver_of stalls offset first
+          ∷ drivers_from stalls (place_after stalls offset first) (filter is_driven ports)) k ≡ Some driver
+          → IsWithin all driver
+      passed rest s d r zero f = subst (λ (x : Driver). IsWithin all x) (cc f)
+          (subst (λ (x : Driver). IsWithin all x)
+          (sym (cond-true (is_own stalls first) (own_driver first) (Column offset (step_of first) first.width) r))
+          (own-within (is_reset first)))
+      passed rest s d r (suc k) f =
+          let shorter : length (filter (is_number_input stalls) (first ∷ ports))
+          ≡ length (filter (is_number_input stalls) ports) =
+          ap length (cond-false (is_number_input stalls first) (first ∷ filter (is_number_input stalls) ports)
+          (filter (is_number_input stalls) ports) s) in
+          let next : place_after stalls offset first ≡ offset = cond-true (is_own stalls first) offset (offset + 1) r in
+          rest offset (omega (arith, fits, shorter)) k (subst (λ o. slice_get (drivers_from stalls o (filter is_driven ports)) k ≡ Some driver) next f)
 
-  taken : ((offset : ℕ) → offset + length (filter (is_number_input stalls) ports) ≤ all → (k : ℕ) → slice_get (drivers_from stalls offset (filter is_driven ports)) k ≡ Some driver → IsWithin all driver)
-      → is_number_input stalls first ≡ true → is_driven first ≡ true → is_own stalls first ≡ false → (k : ℕ) → slice_get (driver_of stalls offset first ∷ drivers_from stalls (place_after stalls offset first) (filter is_driven ports)) k ≡ Some driver → IsWithin all driver
-  taken rest s d r zero f =
-      let longer : length (filter (is_number_input stalls) (first ∷ ports)) ≡ suc (length (filter (is_number_input stalls) ports)) = ap length (cond-true (is_number_input stalls first) (first ∷ filter (is_number_input stalls) ports) (filter (is_number_input stalls) ports) s) in
-      let some = (step-some first).0 in
-      subst (λ (x : Driver). IsWithin all x) (cc f) (subst (λ (x : Driver). IsWithin all x) (sym (cond-false (is_own stalls first) (own_driver first) (Column offset (step_of first) first.width) r)) (omega (arith, fits, longer), omega (arith, some), narrow first (head-in first ports)))
-  taken rest s d r (suc k) f =
-      let longer : length (filter (is_number_input stalls) (first ∷ ports)) ≡ suc (length (filter (is_number_input stalls) ports)) = ap length (cond-true (is_number_input stalls first) (first ∷ filter (is_number_input stalls) ports) (filter (is_number_input stalls) ports) s) in
-      let next : place_after stalls offset first ≡ offset + 1 = cond-false (is_own stalls first) offset (offset + 1) r in
-      rest (offset + 1) (omega (arith, fits, longer)) k (subst (λ o. slice_get (drivers_from stalls o (filter is_driven ports)) k ≡ Some driver) next f)
+      taken : ((offset : ℕ) → offset + length (filter (is_number_input stalls) ports) ≤ all → (k : ℕ)
+          → slice_get (drivers_from stalls offset (filter is_driven ports)) k ≡ Some driver → IsWithin all driver)
+          → is_number_input stalls first ≡ true → is_driven first ≡ true → is_own stalls first ≡ false → (k : ℕ)
+          → slice_get (driver_of stalls offset first
+          ∷ drivers_from stalls (place_after stalls offset first) (filter is_driven ports)) k ≡ Some driver
+          → IsWithin all driver
+      taken rest s d r zero f =
+          let longer : length (filter (is_number_input stalls) (first ∷ ports))
+          ≡ suc (length (filter (is_number_input stalls) ports)) =
+          ap length (cond-true (is_number_input stalls first) (first ∷ filter (is_number_input stalls) ports)
+          (filter (is_number_input stalls) ports) s) in
+          let some = (step-some first).0 in
+          subst (λ (x : Driver). IsWithin all x) (cc f)
+          (subst (λ (x : Driver). IsWithin all x)
+          (sym (cond-false (is_own stalls first) (own_driver first)
+          (Column offset (step_of first) first.width) r))
+          (omega (arith, fits, longer), omega (arith, some), narrow first (head-in first ports)))
+      taken rest s d r (suc k) f =
+          let longer : length (filter (is_number_input stalls) (first ∷ ports))
+          ≡ suc (length (filter (is_number_input stalls) ports)) =
+          ap length (cond-true (is_number_input stalls first) (first ∷ filter (is_number_input stalls) ports)
+          (filter (is_number_input stalls) ports) s) in
+          let next : place_after stalls offset first ≡ offset + 1 = cond-false (is_own stalls first) offset (offset + 1) r in
+          rest (offset + 1) (omega (arith, fits, longer)) k (subst (λ o. slice_get (drivers_from stalls o (filter is_driven ports)) k ≡ Some driver) next f)
 
-  headed : is_driven first ≡ true → slice_get (driver_of stalls offset first ∷ drivers_from stalls (place_after stalls offset first) (filter is_driven ports)) k ≡ Some driver
-  headed d = subst (λ xs. slice_get (drivers_from stalls offset xs) k ≡ Some driver) (cond-true (is_driven first) (first ∷ filter is_driven ports) (filter is_driven ports) d) e
+      headed : is_driven first ≡ true → slice_get (driver_of stalls offset first ∷ drivers_from stalls (place_after stalls offset first) (filter is_driven ports)) k ≡ Some driver
+      headed d = subst (λ xs. slice_get (drivers_from stalls offset xs) k ≡ Some driver) (cond-true (is_driven first) (first ∷ filter is_driven ports) (filter is_driven ports) d) e
 
-  by : ((offset : ℕ) → offset + length (filter (is_number_input stalls) ports) ≤ all → (k : ℕ) → slice_get (drivers_from stalls offset (filter is_driven ports)) k ≡ Some driver → IsWithin all driver)
-      → (input clk own : Bool) → first.input ≡ input → bytes_eq first.name (codes "clk") ≡ clk → is_own stalls first ≡ own → IsWithin all driver
-  by rest false clk own i c r = skipped rest (rw i refl) (rw i refl)
-  by rest true true own i c r = skipped rest (not-stimulus stalls first (inl c)) (rw (i, c) refl)
-  by rest true false true i c r = let d : is_driven first ≡ true = rw (i, c) refl in passed rest (not-stimulus stalls first (inr r)) d r k (headed d)
-  by rest true false false i c r = let d : is_driven first ≡ true = rw (i, c) refl in taken rest (stimulus-of stalls first i c r) d r k (headed d)
+      by : ((offset : ℕ) → offset + length (filter (is_number_input stalls) ports) ≤ all → (k : ℕ)
+          → slice_get (drivers_from stalls offset (filter is_driven ports)) k ≡ Some driver → IsWithin all driver)
+          → (input clk own : Bool) → first.input ≡ input → bytes_eq first.name (codes "clk") ≡ clk → is_own stalls first ≡ own → IsWithin all driver
+      by rest false clk own i c r = skipped rest (rw i refl) (rw i refl)
+      by rest true true own i c r = skipped rest (not-stimulus stalls first (inl c)) (rw (i, c) refl)
+      by rest true false true i c r = let d : is_driven first ≡ true = rw (i, c) refl in passed rest (not-stimulus stalls first (inr r)) d r k (headed d)
+      by rest true false false i c r = let d : is_driven first ≡ true = rw (i, c) refl in taken rest (stimulus-of stalls first i c r) d r k (headed d)
 
 module _ (m : Module) (score : Score) (is : IsScoreOf m score) where
   driven-narrow : Narrow (driven_ports m)
@@ -83,7 +118,8 @@ module _ (m : Module) (score : Score) (is : IsScoreOf m score) where
 
   pub within-columns : AreWithin score.stimulus.columns score.drivers.items
   within-columns = record {
-    at = λ k driver e. within-from (is_stallable m) m.ports (port-narrow m is.sound.narrow) 0 score.stimulus.columns (let c = is.columns in omega (arith, c)) k driver (ap (λ xs. slice_get xs k) (sym is.drivers) ∙ e);
+    at = λ k driver e. within-from (is_stallable m) m.ports (port-narrow m is.sound.narrow) 0 score.stimulus.columns
+        (let c = is.columns in omega (arith, c)) k driver (ap (λ xs. slice_get xs k) (sym is.drivers) ∙ e);
   }
 
   -- bits that are each driver's fit where each driver's does
@@ -98,7 +134,9 @@ module _ (m : Module) (score : Score) (is : IsScoreOf m score) where
   samplers-many = ap length is.samplers ∙ length-map (output_ports m) (sampler_of (clocks_of m))
 
   pub samplers-step : (place : ℕ) (sampler : Sampler) → slice_get score.samplers.items place ≡ Some sampler → 0 < sampler.period
-  samplers-step place sampler e = mapped-back (sampler_of (clocks_of m)) (λ (s : Sampler). 0 < s.period) (output_ports m) (λ port. let s = (step-some port).0 in omega (arith, s)) place sampler (ap (λ xs. slice_get xs place) (sym is.samplers) ∙ e)
+  samplers-step place sampler e = mapped-back (sampler_of (clocks_of m)) (λ (s : Sampler). 0 < s.period)
+      (output_ports m) (λ port. let s = (step-some port).0 in omega (arith, s)) place sampler
+      (ap (λ xs. slice_get xs place) (sym is.samplers) ∙ e)
 
 -- samplers of outputs are near, whatever the clocks of a sample
 pub samplers-near : (cycles : ℕ) (ports : List Port) (samplers : List Sampler) → samplers ≡ map (sampler_of cycles) ports → AreNear samplers

@@ -1,5 +1,6 @@
 -- Of a module that breaks no condition some table is sampled.
-use Rattle.std.proofs.Common.{◌≡◌, ◌<◌, ◌≤◌, ◌+◌, ◌*◌, ◌/◌, ◌^◌, ⊎_elim, ℕ, zero, suc, true, false, not, List, length, map, Contains, bytes_eq, codes, Some, unwrap_or, ℤ, refl, sym, ap, subst, ◌∙◌, arith}
+use Rattle.std.proofs.Common.{◌≡◌, ◌<◌, ◌≤◌, ◌+◌, ◌*◌, ◌/◌, ◌^◌, ⊎_elim, ℕ, zero, suc, true, false, not, List, length, map, Contains, bytes_eq, codes, Some, unwrap_or, ℤ, refl, sym, ap, subst, ◌∙◌}
+use Rattle.std.proofs.Common.{arith}
 use Rattle.std.proofs.lemmas.Bool.{cases_Bool, not-true, and_parts}
 use Rattle.std.proofs.lemmas.List.{length-map}
 use Rattle.std.proofs.lemmas.Nat.{pow_pos}

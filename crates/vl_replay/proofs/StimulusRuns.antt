@@ -1,5 +1,6 @@
 -- The inputs of a replay are driven by its stimulus, and 0 where nothing drives them.
-use Rattle.std.proofs.Common.{◌≡◌, ◌<◌, ◌≤◌, ◌+◌, ◌*◌, ◌/◌, ◌%◌, ℕ, zero, suc, Bool, true, false, not, ◌||◌, ◌==◌, nat_lt, if◌then◌else◌, List, [], ◌∷◌, length, map, slice_get, slice_index, Contains, bytes_eq, codes, Some, unwrap_or, refl, ap, ◌∙◌, arith}
+use Rattle.std.proofs.Common.{◌≡◌, ◌<◌, ◌≤◌, ◌+◌, ◌*◌, ◌/◌, ◌%◌, ℕ, zero, suc, Bool, true, false, not, ◌||◌, ◌==◌, nat_lt, if◌then◌else◌, List, [], ◌∷◌, length, map, slice_get, slice_index, Contains}
+use Rattle.std.proofs.Common.{bytes_eq, codes, Some, unwrap_or, refl, ap, ◌∙◌, arith}
 use Rattle.std.proofs.lemmas.Bool.{cond-true, cond-false, and_parts, eq-eqb, not-true, lt-ltb, le-ltb}
 use Rattle.std.proofs.lemmas.List.{length-map}
 use Rattle.vl_ast.specs.declared.modules.Port.{Port}
@@ -52,7 +53,10 @@ module _ (m : Module) (sound : BreaksNone m) (numbers : PortNumbers) (samples : 
   shown place clock port there =
       let d = stimulus-driver (is_stallable m) m.ports 0 place port there in
       let of = driver_bits numbers samples (clock / clocks_of m) in
-      let long : d.at < length (map of drivers) = (let a = there_within (driven_ports m) d.at port d.port_is in let b = drivers-long (is_stallable m) 0 (driven_ports m) in let c = length-map drivers of in omega (arith, a, b, c)) in
+      let long : d.at < length (map of drivers) =
+      (let a = there_within (driven_ports m) d.at port d.port_is in let b =
+      drivers-long (is_stallable m) 0 (driven_ports m) in let c =
+      length-map drivers of in omega (arith, a, b, c)) in
       let start : 0 + place ≡ place = omega arith in
       given-at (driven_ports m) apart (map of drivers) d.at port d.port_is long
       ∙ indexed (map of drivers) d.at (of (Column (0 + place) (step_of port) port.width)) (there_map of drivers d.at (Column (0 + place) (step_of port) port.width) d.driver_is)
@@ -117,7 +121,9 @@ module _ (m : Module) (sound : BreaksNone m) (numbers : PortNumbers) (samples : 
       unclocked zero low = refl
       unclocked (suc zero) low = reset-others (is_stallable m) 0 (driven_ports m) (codes "clk") refl
       unclocked (suc (suc clock)) low = given-none (driven_ports m) (map (driver_bits numbers samples (clock / clocks_of m)) drivers) (codes "clk")
-          (λ k port e. not-true (bytes_eq port.name (codes "clk")) (and_parts port.input (not (bytes_eq port.name (codes "clk"))) (filter-in is_driven m.ports port (slice-in (driven_ports m) k port e)).1).1)
+          (λ k port e. not-true (bytes_eq port.name (codes "clk"))
+          (and_parts port.input (not (bytes_eq port.name (codes "clk")))
+          (filter-in is_driven m.ports port (slice-in (driven_ports m) k port e)).1).1)
 
       after : (k : ℕ) → 1 < k → k < count → inputs k (codes "reset") ≡ 0
       after zero low high = absurd (omega (arith, low))

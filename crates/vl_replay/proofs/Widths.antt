@@ -1,5 +1,6 @@
 -- The columns of ports.
-use Rattle.std.proofs.Common.{◌≡◌, ℕ, zero, suc, ◌<◌, ◌≤◌, ◌-◌, ◌/◌, ◌^◌, ◌==◌, ◌⊎◌, inl, inr, Bool, true, false, ◌||◌, if◌then◌else◌, neg_ℤ, negsuc, pos, List, [], ◌∷◌, All, refl, ap, ◌∙◌, arith, pow-suc}
+use Rattle.std.proofs.Common.{◌≡◌, ℕ, zero, suc, ◌<◌, ◌≤◌, ◌-◌, ◌/◌, ◌^◌, ◌==◌, ◌⊎◌, inl, inr, Bool, true, false, ◌||◌, if◌then◌else◌, neg_ℤ, negsuc, pos, List, [], ◌∷◌, All, refl, ap, ◌∙◌, arith}
+use Rattle.std.proofs.Common.{pow-suc}
 use Rattle.std.proofs.lemmas.Nat.{pow_pos}
 use Rattle.std.proofs.lemmas.Bool.{eqb-true}
 use Rattle.std.proofs.lemmas.List.Elements.{All-cons, All-nil}
@@ -13,13 +14,23 @@ use Rattle.vl_ast.specs.Attributes.{step_of}
 pub plain-column : (port : Port) → port.signed ≡ false → (port.width ≡ 128 → ⊥) → column_of port ≡ record { low = pos 0; high = pos (2 ^ port.width - 1); period = step_of port }
 plain-column port s other = by port.signed (port.width == 128) s (λ t. other (eqb-true port.width 128 t)) where
   plain : (wide : Bool) → (wide ≡ true → ⊥)
-      → ◌≡◌ {A = Column} (record { low = if wide then neg_ℤ (pos (2 ^ (port.width - 1))) else pos 0; high = if wide then pos (2 ^ (port.width - 1) - 1) else pos (2 ^ port.width - 1); period = step_of port })
+      → ◌≡◌ {A = Column} (record {
+        low = if wide then neg_ℤ (pos (2 ^ (port.width - 1))) else pos 0;
+        high =
+            if wide then pos (2 ^ (port.width - 1) - 1) else pos (2 ^ port.width - 1);
+        period = step_of port;
+      })
       (record { low = pos 0; high = pos (2 ^ port.width - 1); period = step_of port })
   plain true never = absurd (never refl)
   plain false never = refl
 
   by : (signed wide : Bool) → signed ≡ false → (wide ≡ true → ⊥)
-      → ◌≡◌ {A = Column} (record { low = if signed || wide then neg_ℤ (pos (2 ^ (port.width - 1))) else pos 0; high = if signed || wide then pos (2 ^ (port.width - 1) - 1) else pos (2 ^ port.width - 1); period = step_of port })
+      → ◌≡◌ {A = Column} (record {
+        low = if signed || wide then neg_ℤ (pos (2 ^ (port.width - 1))) else pos 0;
+        high = if signed || wide then pos (2 ^ (port.width - 1) - 1) else pos (2 ^ port.width - 1);
+        period =
+            step_of port;
+      })
       (record { low = pos 0; high = pos (2 ^ port.width - 1); period = step_of port })
   by true wide e never = absurd (cc e)
   by false wide e never = plain wide never
@@ -27,10 +38,17 @@ plain-column port s other = by port.signed (port.width == 128) s (λ t. other (e
 -- of a port with sign, or of 128 bits
 pub signed-column : (port : Port) → (port.signed ≡ true) ⊎ ((port.signed ≡ false) × (port.width ≡ 128))
     → column_of port ≡ record { low = neg_ℤ (pos (2 ^ (port.width - 1))); high = pos (2 ^ (port.width - 1) - 1); period = step_of port }
-signed-column port either = ap (λ (sign : Bool). record { low = if sign then neg_ℤ (pos (2 ^ (port.width - 1))) else pos 0; high = if sign then pos (2 ^ (port.width - 1) - 1) else pos (2 ^ port.width - 1); period = step_of port }) (sign either) where
-  sign : (port.signed ≡ true) ⊎ ((port.signed ≡ false) × (port.width ≡ 128)) → has_sign port ≡ true
-  sign (inl signed) = ap (λ (b : Bool). b || (port.width == 128)) signed
-  sign (inr wide) = ap (λ (b : Bool). b || (port.width == 128)) wide.0 ∙ ap (λ (n : ℕ). n == 128) wide.1
+signed-column port either = ap (λ (sign : Bool).
+    record {
+      low = if sign then neg_ℤ (pos (2 ^ (port.width - 1))) else pos 0;
+      high =
+          if sign then pos (2 ^ (port.width - 1) - 1) else pos (2 ^ port.width - 1);
+      period = step_of port;
+    })
+    (sign either) where
+      sign : (port.signed ≡ true) ⊎ ((port.signed ≡ false) × (port.width ≡ 128)) → has_sign port ≡ true
+      sign (inl signed) = ap (λ (b : Bool). b || (port.width == 128)) signed
+      sign (inr wide) = ap (λ (b : Bool). b || (port.width == 128)) wide.0 ∙ ap (λ (n : ℕ). n == 128) wide.1
 
 -- what is below 0, by its distance
 pub below-zero : (n : ℕ) → 1 ≤ n → neg_ℤ (pos n) ≡ negsuc (n - 1)

@@ -46,5 +46,7 @@ one_more separator f xs i x {old} {done} {new} {before} {text} below is so_far o
     (puts-as behind (both so_far.0 put), before_next separator i)
 
 -- all parts are written
-pub all_joined : {A : Type 0} (separator : List ℕ) (f : A → List ℕ) (xs : List A) (i : ℕ) {old done : Writer} {before : List ℕ} → AreJoined separator f xs old done before i → length xs ≤ i → Puts old done (joined separator (map f xs))
+pub all_joined : {A : Type 0} (separator : List ℕ) (f : A → List ℕ) (xs : List A) (i : ℕ) {old done : Writer}
+    {before : List ℕ} → AreJoined separator f xs old done before i → length xs ≤ i
+    → Puts old done (joined separator (map f xs))
 all_joined separator f xs i so_far past = puts-as (ap (λ ys. joined separator (map f ys)) (take_all i xs past)) so_far.0

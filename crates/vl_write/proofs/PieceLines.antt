@@ -1,5 +1,6 @@
 -- Pieces of items, one after another.
-use Rattle.std.proofs.Common.{◌≡◌, ℕ, suc, zero, ◌+◌, ◌-◌, ◌*◌, ◌≤◌, ◌∙◌, List, [], ◌∷◌, ◌++◌, length, take, drop, map, min, Ok, Err, sym, ap, refl, arith, Vec, Global, subst, append-nil, append_assoc}
+use Rattle.std.proofs.Common.{◌≡◌, ℕ, suc, zero, ◌+◌, ◌-◌, ◌*◌, ◌≤◌, ◌∙◌, List, [], ◌∷◌, ◌++◌, length, take, drop, map, min, Ok, Err, sym, ap, refl, arith, Vec, Global, subst, append-nil}
+use Rattle.std.proofs.Common.{append_assoc}
 use Rattle.std.specs.Prelude.{Contains, IfOk, MatchResult, Result}
 use Rattle.std.specs.List.{AllZip, range_with_len, flat_map}
 use Rattle.std.proofs.Math.Seq.{take-add}
@@ -35,14 +36,17 @@ pieces_from items from (suc count) =
 
 -- what a worker makes of its pieces, which it adds one after another to no lines
 abbrev IsStretch : List ModItem → List ℕ → Result (Vec ℕ Global) OutOfMemory → Type 0
-IsStretch items pieces stretch = (first : Result (Vec ℕ Global) OutOfMemory) × IfOk first (λ lines. lines.items ≡ []) × Folds (λ before piece after. Adds (piece_text items piece) before after) first pieces stretch
+IsStretch items pieces stretch = (first : Result (Vec ℕ Global) OutOfMemory)
+    × IfOk first (λ lines. lines.items ≡ [])
+    × Folds (λ before piece after. Adds (piece_text items piece) before after) first pieces stretch
 
 -- a worker that wasn't without memory adds the lines of its pieces in order
 stretch_has : (items : List ModItem) (pieces : List ℕ) (begun : List ℕ) (first stretch : Result (Vec ℕ Global) OutOfMemory) → IfOk first (λ lines. lines.items ≡ begun) →
     Folds (λ before piece after. Adds (piece_text items piece) before after) first pieces stretch →
     IfOk stretch (λ lines. lines.items ≡ begun ++ flat_map (piece_text items) pieces)
 stretch_has items [] begun first stretch is folds =
-    subst (λ (text : List ℕ). IfOk stretch (λ lines. lines.items ≡ text)) (sym (append-nil begun)) (subst (λ (r : Result (Vec ℕ Global) OutOfMemory). IfOk r (λ lines. lines.items ≡ begun)) (sym folds) is)
+    subst (λ (text : List ℕ). IfOk stretch (λ lines. lines.items ≡ text)) (sym (append-nil begun))
+    (subst (λ (r : Result (Vec ℕ Global) OutOfMemory). IfOk r (λ lines. lines.items ≡ begun)) (sym folds) is)
 stretch_has items (piece ∷ pieces) begun first stretch is folds =
     subst (λ (text : List ℕ). IfOk stretch (λ lines. lines.items ≡ text)) (append_assoc begun (piece_text items piece) (flat_map (piece_text items) pieces))
     (stretch_has items pieces (begun ++ piece_text items piece) folds.0 stretch (folds.1 begun is) folds.2)

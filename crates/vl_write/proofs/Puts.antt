@@ -1,5 +1,6 @@
 -- Texts that are put one after another.
-use Rattle.std.proofs.Common.{◌≡◌, ◌==◌, ℕ, ◌-◌, Bool, true, false, List, [], ◌∷◌, ◌++◌, Vec, Global, codes, if◌then◌else◌, length, ◌≤◌, append-nil, append_assoc, true≢false, sym, ap, refl, subst, ◌∙◌, arith}
+use Rattle.std.proofs.Common.{◌≡◌, ◌==◌, ℕ, ◌-◌, Bool, true, false, List, [], ◌∷◌, ◌++◌, Vec, Global, codes, if◌then◌else◌, length, ◌≤◌, append-nil, append_assoc, true≢false, sym, ap, refl, subst}
+use Rattle.std.proofs.Common.{◌∙◌, arith}
 use Rattle.std.specs.Fmt.{decimal}
 use Rattle.std.proofs.lemmas.Bool.Decides.{nat_tests}
 use Rattle.std.specs.Prelude.{map}
@@ -70,7 +71,9 @@ choose-left a test b chosen c other d = simp append_assoc
 pub net-left : (word signed range name end : List ℕ) → (word ++ (signed ++ (range ++ name))) ++ end ≡ word ++ signed ++ range ++ name ++ end
 net-left word signed range name end = simp append_assoc
 
-pub clocked-left : (a name b first c condition value d : List ℕ) → a ++ (name ++ (b ++ (first ++ (c ++ (condition ++ (name ++ (b ++ (value ++ d)))))))) ≡ a ++ name ++ b ++ first ++ c ++ condition ++ name ++ b ++ value ++ d
+pub clocked-left : (a name b first c condition value d : List ℕ)
+    → a ++ (name ++ (b ++ (first ++ (c ++ (condition ++ (name ++ (b ++ (value ++ d))))))))
+    ≡ a ++ name ++ b ++ first ++ c ++ condition ++ name ++ b ++ value ++ d
 clocked-left a name b first c condition value d = simp append_assoc
 
 pub header-left : (a b name c ports d items end : List ℕ) → (a ++ (b ++ (name ++ (c ++ (ports ++ d))))) ++ items ++ end ≡ a ++ b ++ name ++ c ++ ports ++ d ++ items ++ end

@@ -15,7 +15,11 @@ returns g c = elim c.match-words.branch [
       (map string_bytes w.in-Ok.words.items) c.match-words.answer w.answer-answer.result w.answer-answer.new.err c.match-words.shelf w.answer-answer.new.shelf
       w.answer-is w.err-is w.shelf-is
       (has-words _ c.args.args w.in-Ok.words.items w.in-Ok.ensures.found w.in-Ok.ensures.wanting w.in-Ok.ensures.odd)
-      (subst (λ (words : List (String Global)). IfOk w.answer-answer.result (λ done. IsDone g.E.Sink.taken g.E.Sink.faults c.args.err.now w.answer-answer.new.err (map string_bytes words) (files_in g.S.Shelf.held g.S.Shelf.steady g.S.Shelf.faults g.S.Shelf.overlong c.args.shelf.now w.answer-answer.new.shelf) done)) w.as_slice.ensures.value w.answer-answer.ensures.done)
+      (subst (λ (words : List (String Global)). IfOk w.answer-answer.result
+      (λ done. IsDone g.E.Sink.taken g.E.Sink.faults c.args.err.now w.answer-answer.new.err
+      (map string_bytes words) (files_in g.S.Shelf.held g.S.Shelf.steady g.S.Shelf.faults g.S.Shelf.overlong
+      c.args.shelf.now w.answer-answer.new.shelf) done)) w.as_slice.ensures.value
+      w.answer-answer.ensures.done)
       w.answer-answer.ensures.wanting
       c.status_of.ensures.answered c.status_of.ensures.silent c.status_of.ensures.wanting c.status_of.ensures.said c.from.ensures
   | in-Err w ↦ wanted g.E.Sink.taken g.E.Sink.faults c.args.err.now c.match-words.err c.status_of.new.err c.args.args c.status_of.result (exit_status c.from.result)

@@ -18,4 +18,7 @@ pub returns-in-Some : goal.returns-in-Some
 returns-in-Some c =
     let planned = c.args.planned.now in
     IfOk-weaker c.total.result _ _
-    (λ sum is. shown_at c.args.checked.now.diagram planned.resolved (timing_in planned.times) planned.times.slots.ready c.as_slice.result.now c.as_slice-2.result.now c.args.block c.from.result c.in-Some.clocks sum c.requires.there c.requires.times.slots.ready c.as_slice.ensures c.as_slice-2.ensures c.from.ensures c.in-Some.ensures.1 is) c.total.ensures
+    (λ sum is. shown_at c.args.checked.now.diagram planned.resolved
+    (timing_in planned.times) planned.times.slots.ready c.as_slice.result.now c.as_slice-2.result.now
+    c.args.block c.from.result c.in-Some.clocks sum c.requires.there c.requires.times.slots.ready
+    c.as_slice.ensures c.as_slice-2.ensures c.from.ensures c.in-Some.ensures.1 is) c.total.ensures

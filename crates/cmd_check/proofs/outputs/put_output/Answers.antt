@@ -20,7 +20,10 @@ returns-clause-puts g c =
       line = λ earlier.
           one_output diagram plan timing c.args.name.now c.args.block path earlier (earlier ++ bytes) c.path_to-start.ensures.tight
           (ap (λ (line : List ℕ). earlier ++ line) (output_is diagram plan timing c.args.name.now path c.args.block c.args.clocks c.requires.clocks));
-      puts = both (both (adds_as (head_is c.args.name.now c.args.clocks) (both (both (both c.put.ensures c.put-2.ensures) c.put_named.ensures) c.put-3.ensures)) (adds_as (ap (λ (blocks : List ℕ). steps_text diagram blocks) whole) c.put_steps.ensures)) c.put-4.ensures;
+      puts = both (both (adds_as (head_is c.args.name.now c.args.clocks)
+          (both (both (both c.put.ensures c.put-2.ensures) c.put_named.ensures) c.put-3.ensures))
+          (adds_as (ap (λ (blocks : List ℕ). steps_text diagram blocks) whole) c.put_steps.ensures))
+          c.put-4.ensures;
     }
 
 pub path_to-start-requires-clause-latencies : goal.path_to-start-requires-clause-latencies

@@ -15,7 +15,10 @@ loop-place-init g c = record {
 pub loop-place-preserved : goal.loop-place-preserved
 loop-place-preserved g c = record {
   puts =
-      puts_more c.args.checked.now.diagram c.args.planned.now.resolved (timing_in c.args.planned.now.times) c.args.names.now c.args.blocks.now c.loop-place.place c.bytes.result.now c.index-names-place.result _ 0 c.args.out.now c.loop-place.out c.put_output.new.out c.args.pending.now c.loop-place.pending c.put_output.new.pending
+      puts_more c.args.checked.now.diagram c.args.planned.now.resolved
+      (timing_in c.args.planned.now.times) c.args.names.now c.args.blocks.now c.loop-place.place
+      c.bytes.result.now c.index-names-place.result _ 0 c.args.out.now c.loop-place.out c.put_output.new.out
+      c.args.pending.now c.loop-place.pending c.put_output.new.pending
       c.loop-place.invariant.puts c.loop-place-test.true c.requires.size (c.bytes.ensures ∙ c.index-names-place.is) refl c.put_output.ensures.puts;
   room = c.put_output.ensures.room ∙ c.loop-place.invariant.room;
 }
@@ -44,5 +47,7 @@ returns g c =
     let all : c.loop-place.place ≡ length c.args.blocks.now = omega (arith, c.loop-place-test.false, c.loop-place.auto.place-end) in
     subst
     (λ (count : ℕ).
-    PutsOutputs c.args.checked.now.diagram c.args.planned.now.resolved (timing_in c.args.planned.now.times) c.args.names.now c.args.blocks.now count g.K.Sink.taken g.K.Sink.faults c.args.out.now c.args.pending.now c.loop-place.out c.loop-place.pending)
+    PutsOutputs c.args.checked.now.diagram c.args.planned.now.resolved
+    (timing_in c.args.planned.now.times) c.args.names.now c.args.blocks.now count g.K.Sink.taken g.K.Sink.faults
+    c.args.out.now c.args.pending.now c.loop-place.out c.loop-place.pending)
     all c.loop-place.invariant.puts

@@ -24,7 +24,9 @@ pub returns-in-Some-clause-is : goal.returns-in-Some-clause-is
 returns-in-Some-clause-is c =
     let found = c.in-Some.ensures.lookup.3 in
     let edge = c.in-Some.edge.now in
-    line_source c.args.checked.now.diagram c.args.block c.args.number edge (line_found c.args.checked.now.diagram c.diagram.result.now c.as_slice.result.now c.args.number edge c.as_slice.ensures c.diagram.ensures found.0 (found.1 edge))
+    line_source c.args.checked.now.diagram c.args.block c.args.number edge
+    (line_found c.args.checked.now.diagram c.diagram.result.now c.as_slice.result.now c.args.number edge
+    c.as_slice.ensures c.diagram.ensures found.0 (found.1 edge))
 
 pub returns-in-Some-clause-there : goal.returns-in-Some-clause-there
 returns-in-Some-clause-there c =

@@ -13,7 +13,9 @@ put_behind-requires g c = none_of c.args.pending.now.fault c.in_default.not-Some
 pub returns-in-Err : goal.returns-in-Err
 returns-in-Err g c =
     let waiting = c.args.pending.now in
-    subst (λ (bytes : ArrayVec ℕ). Adds g.K.Sink.taken g.K.Sink.faults c.args.out.now (record { bytes = bytes; fault = waiting.fault }) c.put_behind.new.out c.put_behind.new.pending c.args.bytes.now) c.in-Err.ensures.err c.put_behind.ensures
+    subst (λ (bytes : ArrayVec ℕ). Adds g.K.Sink.taken g.K.Sink.faults c.args.out.now
+    (record { bytes = bytes; fault = waiting.fault }) c.put_behind.new.out c.put_behind.new.pending
+    c.args.bytes.now) c.in-Err.ensures.err c.put_behind.ensures
 
 pub returns-in_default-try_extend_from_slice : goal.returns-in_default-try_extend_from_slice
 returns-in_default-try_extend_from_slice g c =

@@ -29,4 +29,6 @@ returns-in_default-put_all g c =
 pub returns-in_default-try_extend_from_slice : goal.returns-in_default-try_extend_from_slice
 returns-in_default-try_extend_from_slice g c =
     let calm = none_of c.put_waiting.new.pending.fault c.in_default.not-Some in
-    both c.put_waiting.ensures.adds (waits_more c.put_waiting.new.out c.put_waiting.new.pending (record { bytes = c.try_extend_from_slice.new.self; fault = c.put_waiting.new.pending.fault }) c.args.bytes.now calm calm c.in_default-try_extend_from_slice.ensures.ok)
+    both c.put_waiting.ensures.adds (waits_more c.put_waiting.new.out c.put_waiting.new.pending
+    (record { bytes = c.try_extend_from_slice.new.self; fault = c.put_waiting.new.pending.fault })
+    c.args.bytes.now calm calm c.in_default-try_extend_from_slice.ensures.ok)

@@ -11,7 +11,8 @@ use Rattle.cmd_check.proofs.writing.put_blocks.Goals as goal
 
 pub loop-place-preserved : goal.loop-place-preserved
 loop-place-preserved g c =
-    adds_as (next_number (block_line c.args.checked.now.diagram (timing_in c.args.planned.now.times)) 0 c.loop-place.place c.loop-place.place (omega arith)) (both c.loop-place.invariant c.put_block.ensures)
+    adds_as (next_number (block_line c.args.checked.now.diagram (timing_in c.args.planned.now.times)) 0
+    c.loop-place.place c.loop-place.place (omega arith)) (both c.loop-place.invariant c.put_block.ensures)
 
 pub returns : goal.returns
 returns g c =

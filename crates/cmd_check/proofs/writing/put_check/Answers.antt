@@ -26,7 +26,11 @@ put_outputs-requires-clause-size g c =
     let names = ap (λ (xs : List (List ℕ)). length xs) c.as_slice.ensures in
     let blocks = ap (λ (xs : List ℕ). length xs) c.as_slice-2.ensures in
     let first : length c.as_slice.result.now - length c.as_slice-2.result.now ≡ length c.args.gathered.names - length c.args.gathered.outputs = omega (arith, names, blocks) in
-    let left = names_left c.args.checked.now.diagram c.args.gathered.names _ c.args.gathered.outputs (length c.as_slice.result.now - length c.as_slice-2.result.now) c.requires.gathered.size c.requires.gathered.outputs first (left_behind (length c.as_slice.result.now - length c.as_slice-2.result.now) c.args.gathered.names c.as_slice-3.result.now c.as_slice-3.ensures) in
+    let left = names_left c.args.checked.now.diagram c.args.gathered.names _ c.args.gathered.outputs
+    (length c.as_slice.result.now - length c.as_slice-2.result.now) c.requires.gathered.size
+    c.requires.gathered.outputs first (left_behind
+    (length c.as_slice.result.now - length c.as_slice-2.result.now) c.args.gathered.names
+    c.as_slice-3.result.now c.as_slice-3.ensures) in
     left ∙ sym (ap (λ (xs : List ℕ). length xs) c.as_slice-4.ensures)
 
 pub returns : goal.returns
@@ -44,9 +48,16 @@ returns g c =
     record {
       text = before ++ outputs.bytes;
       is =
-          text_of diagram plan timing c.args.gathered.names (take (length c.as_slice-3.result.now - first) (drop first c.as_slice-3.result.now)) blocks first before (before ++ outputs.bytes) c.requires.gathered.named c.requires.gathered.size (c.as_slice-4.ensures ∙ c.requires.gathered.outputs)
+          text_of diagram plan timing c.args.gathered.names
+          (take (length c.as_slice-3.result.now - first) (drop first c.as_slice-3.result.now)) blocks first
+          before (before ++ outputs.bytes) c.requires.gathered.named c.requires.gathered.size
+          (c.as_slice-4.ensures ∙ c.requires.gathered.outputs)
           first_is (left_behind first c.args.gathered.names c.as_slice-3.result.now c.as_slice-3.ensures) refl (outputs.lines before);
       ends =
-          written c.args.out.now c.put_outputs.new.out c.put_last.new.out c.none_pending-pending.result c.put_outputs.new.pending (before ++ outputs.bytes) c.put_last.result c.none_pending-pending.ensures.empty c.none_pending-pending.ensures.faultless
-          (both (both (adds_as (front_is plan c.from-cycles.result c.from-multipliers.result c.from-cycles.ensures c.from-multipliers.ensures) (both (both c.put_named.ensures c.put_named-2.ensures) c.put.ensures)) c.put_blocks.ensures) outputs.puts) c.put_last.ensures;
+          written c.args.out.now c.put_outputs.new.out c.put_last.new.out c.none_pending-pending.result
+          c.put_outputs.new.pending (before ++ outputs.bytes) c.put_last.result
+          c.none_pending-pending.ensures.empty c.none_pending-pending.ensures.faultless
+          (both (both (adds_as (front_is plan c.from-cycles.result c.from-multipliers.result c.from-cycles.ensures
+          c.from-multipliers.ensures) (both (both c.put_named.ensures c.put_named-2.ensures) c.put.ensures))
+          c.put_blocks.ensures) outputs.puts) c.put_last.ensures;
     }

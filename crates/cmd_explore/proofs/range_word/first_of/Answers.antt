@@ -7,7 +7,9 @@ pub returns-then-word-place-clause-is : goal.returns-then-word-place-clause-is
 returns-then-word-place-clause-is c =
     let low = c.loop-place-test.true in
     let end = c.loop-place.auto.place-end in
-    sym (position_or_len_is (λ byte. byte == c.args.mark) c.args.word.now c.loop-place.place 0 (omega (arith, low, end)) c.loop-place.invariant (λ within. eq-eqb _ c.args.mark (search (c.if-word-place.true))))
+    sym (position_or_len_is (λ byte. byte == c.args.mark) c.args.word.now c.loop-place.place 0
+    (omega (arith, low, end)) c.loop-place.invariant
+    (λ within. eq-eqb _ c.args.mark (search (c.if-word-place.true))))
 
 pub returns-clause-is : goal.returns-clause-is
 returns-clause-is c =

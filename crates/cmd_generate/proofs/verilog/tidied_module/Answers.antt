@@ -11,4 +11,6 @@ module_of-made-requires-clause-refined c = record {
 }
 
 pub returns : goal.returns
-returns c = core-all c.args.checked.now.diagram c.args.planned.now.resolved c.args.planned.now.times c.module_of-made.result c.module_of-made.ensures.owed c.module_of-made.ensures.spelled c.module_of-made.ensures.keeps
+returns c = core-all c.args.checked.now.diagram c.args.planned.now.resolved c.args.planned.now.times
+    c.module_of-made.result c.module_of-made.ensures.owed c.module_of-made.ensures.spelled
+    c.module_of-made.ensures.keeps

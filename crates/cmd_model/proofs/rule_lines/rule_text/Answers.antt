@@ -6,7 +6,9 @@ use Rattle.dg_model.specs.RuleTable.{rule_number, rule_word}
 use Rattle.cmd_model.specs.RuleLine.{place_text, shown_text}
 use Rattle.cmd_model.proofs.rule_lines.rule_text.Goals as goal
 
-line_put : (rule number behind word close place shown end start one two three four five : List ℕ) → start ≡ [] → one ≡ start ++ (rule ++ number) → two ≡ one ++ (behind ++ word) → three ≡ two ++ (close ++ place) → four ≡ three ++ shown → five ≡ four ++ end
+line_put : (rule number behind word close place shown end start one two three four five : List ℕ) → start ≡ []
+    → one ≡ start ++ (rule ++ number) → two ≡ one ++ (behind ++ word) → three ≡ two ++ (close ++ place)
+    → four ≡ three ++ shown → five ≡ four ++ end
     → five ≡ rule ++ number ++ behind ++ word ++ close ++ place ++ shown ++ end
 line_put rule number behind word close place shown end start one two three four five z p q r s t = rw (t, s, r, q, p, z) (simp append_assoc)
 

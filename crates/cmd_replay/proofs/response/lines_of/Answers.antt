@@ -20,4 +20,6 @@ returns c = λ table is.
     let done = c.loop-sample-test.false in
     let end = c.loop-sample.auto.sample-end in
     let all : c.loop-sample.sample ≡ c.args.samples = omega (arith, done, end) in
-    subst (λ (bytes : List ℕ). IfOk c.from_vec.result (λ (lines : List ℕ). lines ≡ bytes)) (c.loop-sample.invariant.lines table is ∙ ap (response (periods_of c.args.text.now) table) all) c.from_vec.ensures
+    subst (λ (bytes : List ℕ). IfOk c.from_vec.result (λ (lines : List ℕ). lines ≡ bytes))
+    (c.loop-sample.invariant.lines table is ∙ ap (response (periods_of c.args.text.now) table) all)
+    c.from_vec.ensures

@@ -8,4 +8,5 @@ returns-then-is_condition-clause-refused c = λ stimulus.
 
 pub returns-in-Ok-new-clause-made : goal.returns-in-Ok-new-clause-made
 returns-in-Ok-new-clause-made c =
-    machine-is c.args.verilog.now c.in-Ok.made c.in-Ok-new.machine c.in-Ok.ensures.found c.in-Ok.ensures.few c.in-Ok-new.ensures.sound c.in-Ok-new.ensures.source c.in-Ok-new.ensures.row c.in-Ok-new.ensures.ready
+    machine-is c.args.verilog.now c.in-Ok.made c.in-Ok-new.machine c.in-Ok.ensures.found c.in-Ok.ensures.few
+    c.in-Ok-new.ensures.sound c.in-Ok-new.ensures.source c.in-Ok-new.ensures.row c.in-Ok-new.ensures.ready

@@ -22,8 +22,12 @@ returns-in-Err-clause-cause g c =
 
 pub returns-in-Err-clause-cut : goal.returns-in-Err-clause-cut
 returns-in-Err-clause-cut g c = λ table is.
-    let line = line-on c.loop-sample.invariant.goes c.advance.new.self c.advance.ensures.source c.advance.ensures.stimulus c.row.result.now c.line.result.now c.row.ensures.sampled c.line.ensures.line table is in
-    took-part (periods_of c.args.text.now) table c.loop-sample.sample c.args.samples (g.K.Sink.taken c.args.out.now) (g.K.Sink.taken c.loop-sample.out) (g.K.Sink.taken c.put_all.new.sink) c.loop-sample-test.true (c.loop-sample.invariant.taken table is)
+    let line = line-on c.loop-sample.invariant.goes c.advance.new.self c.advance.ensures.source
+    c.advance.ensures.stimulus c.row.result.now c.line.result.now c.row.ensures.sampled c.line.ensures.line
+    table is in
+    took-part (periods_of c.args.text.now) table c.loop-sample.sample c.args.samples (g.K.Sink.taken c.args.out.now)
+    (g.K.Sink.taken c.loop-sample.out) (g.K.Sink.taken c.put_all.new.sink) c.loop-sample-test.true
+    (c.loop-sample.invariant.taken table is)
     (subst (λ (bytes : List ℕ). TookProperPrefix (g.K.Sink.taken c.loop-sample.out) (g.K.Sink.taken c.put_all.new.sink) bytes) line c.in-Err.ensures.cut)
 
 pub loop-sample-preserved : goal.loop-sample-preserved
@@ -35,7 +39,9 @@ loop-sample-preserved g c =
           c.in_default.ensures.whole
           ∙ ap (λ (told : Option (List ℕ)). also_took told c.line.result.now) (c.loop-sample.invariant.taken table is)
           ∙ also_took-append (g.K.Sink.taken c.args.out.now) (response (periods_of c.args.text.now) table c.loop-sample.sample) c.line.result.now
-          ∙ ap (also_took (g.K.Sink.taken c.args.out.now)) (more-on goes c.advance.new.self c.advance.ensures.source c.advance.ensures.stimulus c.row.result.now c.line.result.now c.row.ensures.sampled c.line.ensures.line table is);
+          ∙ ap (also_took (g.K.Sink.taken c.args.out.now))
+          (more-on goes c.advance.new.self c.advance.ensures.source c.advance.ensures.stimulus c.row.result.now
+          c.line.result.now c.row.ensures.sampled c.line.ensures.line table is);
       later = let now = c.put_all.ensures.later in let then = c.loop-sample.invariant.later in omega (arith, now, then);
     }
 

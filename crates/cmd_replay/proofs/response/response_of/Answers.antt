@@ -15,7 +15,9 @@ returns-in-Ok-response_with-clause-made c =
     let ready = c.in-Ok-response_with.response in
     let periods = c.in-Ok-response_with.ensures.text ∙ ap (λ (columns : List Column). map (λ (column : Column). column.period) columns) (c.as_slice-3.ensures ∙ sym c.as_slice.ensures) in
     responds c.args.verilog.now c.args.stimulus.now m rows c.as_slice-2.result.now c.as_slice.result.now (length c.as_slice.result.now) ready.samples ready.replay ready.text some.table
-    c.in-Ok.ensures.made.spelled (c.as_slice-2.ensures ∙ c.in-Ok-columns.ensures.inputs) (c.as_slice.ensures ∙ c.in-Ok-columns.ensures.outputs) refl c.in-Ok-read_rows.ensures.rows c.in-Ok-response_with.ensures.samples periods c.in-Ok-response_with.ensures.stands
+    c.in-Ok.ensures.made.spelled (c.as_slice-2.ensures ∙ c.in-Ok-columns.ensures.inputs)
+    (c.as_slice.ensures ∙ c.in-Ok-columns.ensures.outputs) refl c.in-Ok-read_rows.ensures.rows
+    c.in-Ok-response_with.ensures.samples periods c.in-Ok-response_with.ensures.stands
     c.in-Ok-response_with.ensures.source c.in-Ok-response_with.ensures.stimulus some.sampled
 
 pub returns-in-Err-clause-refused : goal.returns-in-Err-clause-refused
@@ -26,7 +28,9 @@ returns-in-Err-Bad-clause-refused c =
     let m = source_of c.in-Ok.machine in
     let inputs = c.as_slice-2.ensures ∙ c.in-Ok-columns.ensures.inputs in
     let outputs = c.as_slice.ensures ∙ c.in-Ok-columns.ensures.outputs in
-    rw (c.in-Err-Bad.line-is, c.in-Err-Bad.cause-is) (bad-stimulus c.args.verilog.now c.args.stimulus.now m c.as_slice-2.result.now c.as_slice.result.now c.in-Err-Bad.line c.in-Err-Bad.cause c.in-Ok.ensures.made.spelled inputs outputs
+    rw (c.in-Err-Bad.line-is, c.in-Err-Bad.cause-is)
+    (bad-stimulus c.args.verilog.now c.args.stimulus.now m c.as_slice-2.result.now c.as_slice.result.now
+    c.in-Err-Bad.line c.in-Err-Bad.cause c.in-Ok.ensures.made.spelled inputs outputs
     (c.in-Err-Bad.ensures.refused (λ e. cc (sym c.in-Err-Bad.field-0-is ∙ e)) ∙ ap Some c.in-Err-Bad.field-0-is))
 
 pub response_with-requires : goal.response_with-requires

@@ -7,7 +7,9 @@ use Rattle.cmd_sample.proofs.modeling.push_lines_to.Goals as goal
 
 pub loop-port-preserved : goal.loop-port-preserved
 loop-port-preserved c =
-    texts_more (line_text (codes "In") c.args.name.now) 2 c.loop-port.port (c.loop-port.port + 2) c.push_line.new.text.items c.loop-port.text.items _ c.loop-port.invariant c.in_ok-push_line-2.ensures (omega arith)
+    texts_more (line_text (codes "In") c.args.name.now) 2 c.loop-port.port
+    (c.loop-port.port + 2) c.push_line.new.text.items c.loop-port.text.items _ c.loop-port.invariant
+    c.in_ok-push_line-2.ensures (omega arith)
 
 pub returns : goal.returns
 returns c =

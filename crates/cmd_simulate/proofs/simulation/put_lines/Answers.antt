@@ -12,7 +12,9 @@ returns-in-Err-clause-cut g c =
     let below : t < rows.lines = omega (arith, c.loop-sample-test.true, c.count-sample-end.ensures) in
     let at = subst (λ (numbers : List ℤ). IsRowAt checked rows t numbers) (sym c.row.ensures) c.step.ensures.row in
     took_part_of_line checked rows (periods_of c.args.text.now) t (periods_of c.loop-sample.text) c.row.result.now c.line.result.now
-    (g.K.Sink.taken c.args.out.now) (g.K.Sink.taken c.loop-sample.out) (g.K.Sink.taken c.put_all.new.sink) c.loop-sample.invariant.periods at c.line.ensures.line below c.loop-sample.invariant.taken c.in-Err.ensures.cut
+    (g.K.Sink.taken c.args.out.now) (g.K.Sink.taken c.loop-sample.out)
+    (g.K.Sink.taken c.put_all.new.sink) c.loop-sample.invariant.periods at c.line.ensures.line below
+    c.loop-sample.invariant.taken c.in-Err.ensures.cut
 
 pub loop-sample-init : goal.loop-sample-init
 loop-sample-init g c = record {

@@ -24,8 +24,13 @@ returns c =
     let same : c.short-v.result ≡ c.switch_input.result = rw own at c.short-v.ensures in
     let fits : FitsSigned w128 c.in-Switch.threshold = search rules in
     let threshold = to_z-of_z w128 c.in-Switch.threshold fits in
-    let taken : c.switch_input.result ≡ cond (meets c.in-Switch.criterion c.in-Switch.threshold (value_of c.args.inputs.now 1)) (value_of c.args.inputs.now 0) (value_of c.args.inputs.now 2) = rw threshold at c.switch_input.ensures in
+    let taken : c.switch_input.result ≡ cond
+    (meets c.in-Switch.criterion c.in-Switch.threshold (value_of c.args.inputs.now 1))
+    (value_of c.args.inputs.now 0) (value_of c.args.inputs.now 2) =
+    rw threshold at c.switch_input.ensures in
     let n : FitsSigned w64 c.convert.result = record { sfits = c.convert.type_inv } in
     let r : to_z w128 (of_z w128 c.from.result) ≡ c.convert.result = omega (arith, ints, c.from.ensures, n) in
-    rw r (chosen_gives (operation_of c.args.call.now) c.args.inputs.now c.requires.can c.args.narrow c.requires.prepared c.args.call.now.op refl c.in-Switch.criterion c.in-Switch.threshold c.convert.result c.in-Switch.is
+    rw r (chosen_gives (operation_of c.args.call.now) c.args.inputs.now c.requires.can c.args.narrow
+    c.requires.prepared c.args.call.now.op refl c.in-Switch.criterion c.in-Switch.threshold c.convert.result
+    c.in-Switch.is
     (λ from narrow. rw (short, same, taken) at (c.convert.ensures from c.args.call.now.result c.args.call.now.rounding c.args.call.now.saturate narrow)))

@@ -23,12 +23,16 @@ aligned_value-requires-clause-fits c =
 
 pub aligned_value-requires-2-clause-high : goal.aligned_value-requires-2-clause-high
 aligned_value-requires-2-clause-high c =
-    rw (max_frac (goal.at.aligned_value-requires-2-clause-high c).After-max-frac) (int_max_most (frac_of c.args.a) (frac_of c.args.b) _ (frac_bounds c.args.a c.requires.left).1 (frac_bounds c.args.b c.requires.right).1)
+    rw (max_frac (goal.at.aligned_value-requires-2-clause-high c).After-max-frac)
+    (int_max_most (frac_of c.args.a) (frac_of c.args.b) _ (frac_bounds c.args.a c.requires.left).1
+    (frac_bounds c.args.b c.requires.right).1)
 
 pub aligned_value-requires-2-clause-fits : goal.aligned_value-requires-2-clause-fits
 aligned_value-requires-2-clause-fits c =
     let y : to_z w128 (of_z w128 c.args.y) ≡ c.args.y = to_z-of_z w128 c.args.y c.ranges.y in
-    rw (max_frac (goal.at.aligned_value-requires-2-clause-fits c).After-max-frac, y) (right_fits c.args.a c.args.b c.requires.union.0 c.requires.union.1 c.args.y c.requires.right c.requires.y_in_range)
+    rw (max_frac (goal.at.aligned_value-requires-2-clause-fits c).After-max-frac, y)
+    (right_fits c.args.a c.args.b c.requires.union.0 c.requires.union.1 c.args.y c.requires.right
+    c.requires.y_in_range)
 
 pub aligned_value-requires-clause-valid : goal.aligned_value-requires-clause-valid
 aligned_value-requires-clause-valid c = c.requires.left
@@ -38,7 +42,9 @@ aligned_value-requires-2-clause-valid c = c.requires.right
 
 pub aligned_value-requires-clause-high : goal.aligned_value-requires-clause-high
 aligned_value-requires-clause-high c =
-    rw (max_frac (goal.at.aligned_value-requires-clause-high c).After-max-frac) (int_max_most (frac_of c.args.a) (frac_of c.args.b) _ (frac_bounds c.args.a c.requires.left).1 (frac_bounds c.args.b c.requires.right).1)
+    rw (max_frac (goal.at.aligned_value-requires-clause-high c).After-max-frac)
+    (int_max_most (frac_of c.args.a) (frac_of c.args.b) _ (frac_bounds c.args.a c.requires.left).1
+    (frac_bounds c.args.b c.requires.right).1)
 
 pub aligned_value-requires-clause-above : goal.aligned_value-requires-clause-above
 aligned_value-requires-clause-above c = rw (max_frac (goal.at.aligned_value-requires-clause-above c).After-max-frac) (omega (arith, ints, clamps))

@@ -47,7 +47,9 @@ aligned_value-requires-else-negative-clause-fits c =
 
 pub returns-else-negative : goal.returns-else-negative
 returns-else-negative c =
-    let r : to_z w128 (of_z w128 c.aligned_value-else-negative.result) ≡ c.aligned_value-else-negative.result = to_z-of_z w128 c.aligned_value-else-negative.result (record { sfits = c.aligned_value-else-negative.type_inv }) in
+    let r : to_z w128 (of_z w128 c.aligned_value-else-negative.result) ≡ c.aligned_value-else-negative.result =
+    to_z-of_z w128 c.aligned_value-else-negative.result
+    (record { sfits = c.aligned_value-else-negative.type_inv }) in
     let f : to_z w16 (of_z w16 c.args.frac) ≡ c.args.frac = to_z-of_z w16 c.args.frac c.ranges.frac in
     let v : to_z w128 (of_z w128 c.args.v) ≡ c.args.v = to_z-of_z w128 c.args.v c.ranges.v in
     let given : c.aligned_value-else-negative.result ≡ aligned c.args.frac c.args.kind c.args.v = rw (f, v) at c.aligned_value-else-negative.ensures in

@@ -27,7 +27,17 @@ returns-clause-modest c =
     let b = to_z-of_z w64 c.args.bias c.ranges.bias in
     let t = to_z-of_z w64 c.tie.result (record { sfits = c.tie.type_inv }) in
     let first : FitsSigned w64 (c.args.v +ℤ c.args.bias) = omega (arith, ints, c.requires.small.low, c.requires.small.high, c.requires.bias.0, c.requires.bias.1) in
-    let second : FitsSigned w64 (c.args.v +ℤ c.args.bias +ℤ c.tie.result) = omega (arith, ints, c.requires.small.low, c.requires.small.high, c.requires.bias.0, c.requires.bias.1, c.tie.ensures.low, c.tie.ensures.high) in
+    let second : FitsSigned w64 (c.args.v +ℤ c.args.bias +ℤ c.tie.result) =
+    omega (
+      arith,
+      ints,
+      c.requires.small.low,
+      c.requires.small.high,
+      c.requires.bias.0,
+      c.requires.bias.1,
+      c.tie.ensures.low,
+      c.tie.ensures.high,
+    ) in
     let f = to_z-of_z w64 (c.args.v +ℤ c.args.bias) first in
     let s = to_z-of_z w64 (c.args.v +ℤ c.args.bias +ℤ c.tie.result) second in
     let r = to_z-of_z w64 (shr_z (c.args.v +ℤ c.args.bias +ℤ c.tie.result) (2 ^ c.args.down)) (shr-fits (c.args.v +ℤ c.args.bias +ℤ c.tie.result) (2 ^ c.args.down) second) in

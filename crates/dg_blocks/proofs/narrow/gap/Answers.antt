@@ -8,7 +8,9 @@ near_fits : (low high : ℤ) → negsuc 63 ≤ℤ low → low ≤ℤ pos 128 →
 near_fits low high a b c d = omega (arith, ints, a, b, c, d)
 
 -- the difference, as 16 bits have it
-difference : (low high : ℤ) → FitsSigned w16 low → FitsSigned w16 high → negsuc 63 ≤ℤ low → low ≤ℤ pos 128 → negsuc 63 ≤ℤ high → high ≤ℤ pos 128 → to_z w16 (of_z w16 (to_z w16 (of_z w16 high) -ℤ to_z w16 (of_z w16 low))) ≡ high -ℤ low
+difference : (low high : ℤ) → FitsSigned w16 low → FitsSigned w16 high → negsuc 63 ≤ℤ low → low ≤ℤ pos 128
+    → negsuc 63 ≤ℤ high → high ≤ℤ pos 128
+    → to_z w16 (of_z w16 (to_z w16 (of_z w16 high) -ℤ to_z w16 (of_z w16 low))) ≡ high -ℤ low
 difference low high fits_low fits_high a b c d = rw (to_z-of_z w16 high fits_high, to_z-of_z w16 low fits_low) (to_z-of_z w16 (high -ℤ low) (near_fits low high a b c d))
 
 pub overflow_sub-gap : goal.overflow_sub-gap

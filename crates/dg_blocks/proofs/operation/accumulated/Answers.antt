@@ -27,9 +27,13 @@ loop-input-preserved c =
     let i = c.loop-input.input in
     let signs : length call.signs.now ≡ length call.types.now = subst (λ (op : Op). HasSigns op call.signs.now (length call.types.now)) c.requires.is_sum c.requires.can.prepared.signs in
     let inside : i < length call.types.now = omega (arith, c.loop-input-test.true, c.requires.can.values.count) in
-    let v = to_z-of_z w128 (value_of c.args.inputs.now i) (InRange-fits (type_of call.types.now i) (value_of c.args.inputs.now i) (c.requires.can.prepared.types i _ inside) (c.requires.can.values.in_range i inside)) in
+    let v = to_z-of_z w128 (value_of c.args.inputs.now i)
+    (InRange-fits (type_of call.types.now i) (value_of c.args.inputs.now i)
+    (c.requires.can.prepared.types i _ inside) (c.requires.can.values.in_range i inside)) in
     let r = to_z-of_z w128 c.step-total.result (record { sfits = c.step-total.type_inv }) in
-    rw r (one_added (operation_of call) c.args.accum c.args.inputs.now i (to_z w128 c.loop-input.total-bits) c.step-total.result inside signs c.requires.can.values.count c.loop-input.invariant c.step-total.ensures.range
+    rw r (one_added (operation_of call) c.args.accum c.args.inputs.now i
+    (to_z w128 c.loop-input.total-bits) c.step-total.result inside signs c.requires.can.values.count
+    c.loop-input.invariant c.step-total.ensures.range
     (rw v at c.step-total.ensures.step))
 
 pub returns : goal.returns
@@ -37,4 +41,5 @@ returns c =
     let call = c.args.call.now in
     let r = to_z-of_z w128 c.conversion.result (record { sfits = c.conversion.type_inv }) in
     let added = all_added (operation_of call) c.args.accum c.args.inputs.now c.loop-input.input (to_z w128 c.loop-input.total-bits) c.loop-input-test.false c.loop-input.invariant in
-    rw r (subst (λ (op : Op). Gives op (operation_of call) call.types.now c.args.inputs.now c.conversion.result) (sym c.requires.is_sum) (to_z w128 c.loop-input.total-bits, added, c.conversion.ensures))
+    rw r (subst (λ (op : Op). Gives op (operation_of call) call.types.now c.args.inputs.now c.conversion.result)
+    (sym c.requires.is_sum) (to_z w128 c.loop-input.total-bits, added, c.conversion.ensures))

@@ -15,7 +15,9 @@ own : (types : List FxType) (inputs : List ℤ) (input : ℕ) → All IsType typ
 own types inputs input valid values inside = to_z-of_z w128 _ (InRange-fits (type_of types input) (value_of inputs input) (valid input _ inside) (values.in_range input inside))
 
 -- its type and the number itself are those of an input
-read : (types : List FxType) (inputs : List ℤ) (input : ℕ) → All IsType types → AreInRange types inputs → input < length types → IsType (type_of types input) × InRange (type_of types input) (to_z w128 (of_z w128 (value_of inputs input)))
+read : (types : List FxType) (inputs : List ℤ) (input : ℕ) → All IsType types → AreInRange types inputs
+    → input < length types → IsType (type_of types input)
+    × InRange (type_of types input) (to_z w128 (of_z w128 (value_of inputs input)))
 read types inputs input valid values inside = (valid input _ inside, rw (own types inputs input valid values inside) (values.in_range input inside))
 
 pub times-requires : goal.times-requires
@@ -38,14 +40,31 @@ times-requires-in-Product c =
     let two : length c.args.call.now.types.now ≡ 2 = subst (λ (op : Op). HasArity op (length c.args.call.now.types.now)) c.in-Product.is c.requires.prepared.arity in
     let x = read c.args.call.now.types.now c.args.inputs.now 0 c.requires.prepared.types c.requires.values (omega (arith, two)) in
     let y = read c.args.call.now.types.now c.args.inputs.now 1 c.requires.prepared.types c.requires.values (omega (arith, two)) in
-    record { left = x.0; right = y.0; x_in_range = x.1; y_in_range = y.1; full = subst (λ (op : Op). HasFullType op c.args.call.now.signs.now c.args.call.now.types.now) c.in-Product.is c.requires.prepared.full_type; result = c.requires.prepared.result }
+    record {
+      left = x.0;
+      right = y.0;
+      x_in_range = x.1;
+      y_in_range = y.1;
+      full =
+          subst (λ (op : Op). HasFullType op c.args.call.now.signs.now c.args.call.now.types.now) c.in-Product.is
+          c.requires.prepared.full_type;
+      result = c.requires.prepared.result;
+    }
 
 pub compares_values-requires : goal.compares_values-requires
 compares_values-requires c =
     let two : length c.args.call.now.types.now ≡ 2 = subst (λ (op : Op). HasArity op (length c.args.call.now.types.now)) c.in-Relational.is c.requires.prepared.arity in
     let x = read c.args.call.now.types.now c.args.inputs.now 0 c.requires.prepared.types c.requires.values (omega (arith, two)) in
     let y = read c.args.call.now.types.now c.args.inputs.now 1 c.requires.prepared.types c.requires.values (omega (arith, two)) in
-    record { left = x.0; right = y.0; x_in_range = x.1; y_in_range = y.1; union = subst (λ (op : Op). HasFullType op c.args.call.now.signs.now c.args.call.now.types.now) c.in-Relational.is c.requires.prepared.full_type }
+    record {
+      left = x.0;
+      right = y.0;
+      x_in_range = x.1;
+      y_in_range = y.1;
+      union =
+          subst (λ (op : Op). HasFullType op c.args.call.now.signs.now c.args.call.now.types.now) c.in-Relational.is
+          c.requires.prepared.full_type;
+    }
 
 pub conversion-requires : goal.conversion-requires
 conversion-requires c =
@@ -97,7 +116,9 @@ returns-in-Gain c =
 -- a Switch gives the input that it takes, converted, and its numbers are those of the codes that stand for them
 switched : (operation : Operation) (inputs : List ℤ) (criterion : Criterion) (threshold : ℤ) (first : Bool) (r : ℤ) → CanCarryOut operation inputs → operation.op ≡ Switch criterion threshold
     → first ≡ meets criterion (to_z w128 (of_z w128 threshold)) (to_z w128 (of_z w128 (value_of inputs 1)))
-    → MatchBool first (IsConverted operation (to_z w128 (of_z w128 (value_of inputs 0))) (type_of operation.types 0) r) (IsConverted operation (to_z w128 (of_z w128 (value_of inputs 2))) (type_of operation.types 2) r)
+    → MatchBool first (IsConverted operation (to_z w128 (of_z w128 (value_of inputs 0)))
+    (type_of operation.types 0) r)
+    (IsConverted operation (to_z w128 (of_z w128 (value_of inputs 2))) (type_of operation.types 2) r)
     → OpGives operation inputs r
 switched operation inputs criterion threshold first r can op met given =
     let types = operation.types in
@@ -118,7 +139,8 @@ returns-then-meets c =
 pub returns-else-meets : goal.returns-else-meets
 returns-else-meets c =
     rw (to_z-of_z w128 c.conversion-else-meets.result (record { sfits = c.conversion-else-meets.type_inv }))
-    (switched (operation_of c.args.call.now) c.args.inputs.now c.in-Switch.criterion c.in-Switch.threshold false c.conversion-else-meets.result c.requires c.in-Switch.is c.if-meets.ensures c.conversion-else-meets.ensures)
+    (switched (operation_of c.args.call.now) c.args.inputs.now c.in-Switch.criterion c.in-Switch.threshold false
+    c.conversion-else-meets.result c.requires c.in-Switch.is c.if-meets.ensures c.conversion-else-meets.ensures)
 
 pub returns-in-Product : goal.returns-in-Product
 returns-in-Product c =

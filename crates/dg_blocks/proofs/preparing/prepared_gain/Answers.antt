@@ -11,7 +11,9 @@ use Rattle.dg_blocks.proofs.preparing.prepared_gain.Goals as goal
 pub short-requires : goal.short-requires
 short-requires c =
     let own = to_z-of_z w128 c.args.coefficient c.ranges.coefficient in
-    let parameters : HasParameters (Gain c.args.coefficient c.args.param) c.args.call.now.types.now = subst (λ (op : Op). HasParameters op c.args.call.now.types.now) c.requires.is_gain c.requires.can.parameters in
+    let parameters : HasParameters (Gain c.args.coefficient c.args.param) c.args.call.now.types.now =
+    subst (λ (op : Op). HasParameters op c.args.call.now.types.now) c.requires.is_gain
+    c.requires.can.parameters in
     let bits : magnitude_of c.args.param ≤ 61 = omega (arith, c.in-Some.ensures.1.bits_below) in
     rw own (whole_fits (magnitude_of c.args.param) c.args.coefficient bits (range_within c.args.param c.args.coefficient parameters.0 parameters.1))
 

@@ -36,7 +36,9 @@ term-total-requires-clause-short c =
 pub term-total-requires-clause-small : goal.term-total-requires-clause-small
 term-total-requires-clause-small c =
     let i = c.loop-input.input in
-    rw (to_z-of_z w16 c.args.frac c.ranges.frac, shortened (goal.at.term-total-requires-clause-small c).After-short) (aligned_small c.args.frac c.args.signs.now c.args.types.now c.args.inputs.now c.requires.sum i c.loop-input-test.true)
+    rw (to_z-of_z w16 c.args.frac c.ranges.frac, shortened (goal.at.term-total-requires-clause-small c).After-short)
+    (aligned_small c.args.frac c.args.signs.now c.args.types.now c.args.inputs.now c.requires.sum i
+    c.loop-input-test.true)
 
 -- one more term gives the sum of one more
 step : (c : After-term-total) → to_z w64 c.loop-input.total-bits +ℤ to_z w64 (of_z w64 c.term-total.result)
@@ -58,10 +60,14 @@ overflow_add-total c =
 pub loop-input-preserved : goal.loop-input-preserved
 loop-input-preserved c =
     let f = to_z-of_z w16 c.args.frac c.ranges.frac in
-    rw (f, add-one, step (goal.at.loop-input-preserved c).After-term-total) (to_z-of_z w64 _ (part_fits c.args.frac c.args.signs.now c.args.types.now c.args.inputs.now c.requires.sum (suc c.loop-input.input)))
+    rw (f, add-one, step (goal.at.loop-input-preserved c).After-term-total)
+    (to_z-of_z w64 _ (part_fits c.args.frac c.args.signs.now c.args.types.now c.args.inputs.now c.requires.sum
+    (suc c.loop-input.input)))
 
 pub returns : goal.returns
 returns c =
     let f = to_z-of_z w16 c.args.frac c.ranges.frac in
-    let before : to_z w64 c.loop-input.total-bits ≡ signed_sum c.args.frac (take c.loop-input.input (zip c.args.signs.now c.args.types.now)) (take c.loop-input.input c.args.inputs.now) = rw f at c.loop-input.invariant in
+    let before : to_z w64 c.loop-input.total-bits
+    ≡ signed_sum c.args.frac (take c.loop-input.input (zip c.args.signs.now c.args.types.now))
+    (take c.loop-input.input c.args.inputs.now) = rw f at c.loop-input.invariant in
     before ∙ all_of c.args.frac c.args.signs.now c.args.types.now c.args.inputs.now c.requires.sum c.loop-input.input c.loop-input-test.false

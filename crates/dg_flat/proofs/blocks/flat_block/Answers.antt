@@ -15,7 +15,10 @@ pub returns-in_ok-path-in-Enable : goal.returns-in_ok-path-in-Enable
 returns-in_ok-path-in-Enable c = λ place at.
     let blocks = c.args.blocks.now in
     let block = c.args.block.now in
-    let path = c.in_ok-path-in-Enable.ensures ∙ path_is blocks (length blocks) place block c.args.paths.now c.requires.parents c.requires.paths c.requires.within (some_inside blocks place block at) (get_or_from_slice_get blocks place block block at) in
+    let path = c.in_ok-path-in-Enable.ensures
+    ∙ path_is blocks (length blocks) place block c.args.paths.now c.requires.parents c.requires.paths
+    c.requires.within (some_inside blocks place block at)
+    (get_or_from_slice_get blocks place block block at) in
     ap Some (c.control_block.ensures ∙ ap control_as path) ∙ sym (ap (flat_block blocks place (control_of blocks block.parent)) c.in-Enable.is)
 
 pub returns-in_ok-flat-in-Plain : goal.returns-in_ok-flat-in-Plain
@@ -24,7 +27,10 @@ returns-in_ok-flat-in-Plain c = λ place at.
     let block = c.args.block.now in
     let own = c.in-Plain.own in
     let control = control_of blocks block.parent in
-    let path = c.in_ok-path-in-Plain.ensures ∙ path_is blocks (length blocks) place block c.args.paths.now c.requires.parents c.requires.paths c.requires.within (some_inside blocks place block at) (get_or_from_slice_get blocks place block block at) in
+    let path = c.in_ok-path-in-Plain.ensures
+    ∙ path_is blocks (length blocks) place block c.args.paths.now c.requires.parents c.requires.paths
+    c.requires.within (some_inside blocks place block at)
+    (get_or_from_slice_get blocks place block block at) in
     let part : flat_block blocks place control block.part ≡ Some (placed blocks place control own) =
     elim c.in-Plain.is [
       | inl plain ↦ ap (flat_block blocks place control) plain

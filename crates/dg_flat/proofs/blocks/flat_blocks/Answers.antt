@@ -36,4 +36,6 @@ pub returns : goal.returns
 returns c =
     let blocks = c.args.blocks.now in
     c.loop-block.invariant
-    ∙ ap (λ (done : List NestedBlock). filter_map (λ (place, block). flat_block blocks place (control_of blocks block.parent) block.part) (enumerate_from 0 done)) (take_all c.loop-block.block-index blocks c.loop-block-test.false)
+    ∙ ap (λ (done : List NestedBlock). filter_map
+    (λ (place, block). flat_block blocks place (control_of blocks block.parent) block.part)
+    (enumerate_from 0 done)) (take_all c.loop-block.block-index blocks c.loop-block-test.false)

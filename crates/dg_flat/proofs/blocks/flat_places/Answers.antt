@@ -18,7 +18,10 @@ loop-block-preserved c =
     let stands = λ (other : NestedBlock). not (is_subsystem other.part) in
     let more : flat_place blocks (i + 1) ≡ flat_place blocks i + cond (stands block) 1 0 =
     ap (count_by stands) (take_block blocks i block c.loop-block-test.true (sym c.block-item.is)) ∙ count_push stands (take i blocks) block in
-    let places : IsTable (i + 1) (flat_place blocks) c.push.new.self.items = rw c.in_ok-push.ensures.items (table_push i (flat_place blocks) c.loop-block.places.items c.loop-block.next c.loop-block.invariant.next c.loop-block.invariant.places) in
+    let places : IsTable (i + 1) (flat_place blocks) c.push.new.self.items =
+    rw c.in_ok-push.ensures.items (table_push i
+    (flat_place blocks) c.loop-block.places.items c.loop-block.next c.loop-block.invariant.next
+    c.loop-block.invariant.places) in
     elim c.if-not-is_subsystem.branch [
       | then-not-is_subsystem w ↦
           let counts : stands block ≡ true = ap not (sym c.is_subsystem.ensures ∙ w.if-not-is_subsystem.true) in

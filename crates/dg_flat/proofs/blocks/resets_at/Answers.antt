@@ -7,7 +7,9 @@ use Rattle.dg_flat.specs.Flat.{resets}
 use Rattle.dg_flat.proofs.blocks.resets_at.Goals as goal
 
 -- what the part at a place says
-reset_of : (blocks : List NestedBlock) (control : ℕ) (none : NestedBlock) (part : Part) → control < length blocks → (get_or blocks control none).part ≡ part → resets (Some (record none { part = part })) ≡ resets (slice_get blocks control)
+reset_of : (blocks : List NestedBlock) (control : ℕ) (none : NestedBlock) (part : Part) → control < length blocks
+    → (get_or blocks control none).part ≡ part
+    → resets (Some (record none { part = part })) ≡ resets (slice_get blocks control)
 reset_of blocks control none part inside such =
     sym (ap resets (slice_get-get_or blocks control none inside) ∙ ap (λ (p : Part). resets (Some (record none { part = p }))) such)
 

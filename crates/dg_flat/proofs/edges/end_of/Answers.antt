@@ -21,11 +21,19 @@ returns-then-is_subsystem c =
     let block = c.index-blocks-place.result in
     c.first_port.ensures blocks c.requires.places
     ∙ ap (option_map (first_port blocks)) (found_is blocks In (suc c.args.place) c.in-Port.port c.first.result c.requires.numbers (c.first.ensures blocks In c.requires.systems.ins))
-    ∙ sym (ap (end_at blocks c.args.place) c.in-Port.is ∙ port_inner blocks c.args.place c.in-Port.port In block (read_at blocks c.args.place block c.requires.there c.index-blocks-place.is) (ap (λ (b : NestedBlock). is_subsystem b.part) c.index-blocks-place.is ∙ sym c.is_subsystem.ensures ∙ c.if-is_subsystem.true))
+    ∙ sym (ap (end_at blocks c.args.place) c.in-Port.is
+    ∙ port_inner blocks c.args.place c.in-Port.port In block
+    (read_at blocks c.args.place block c.requires.there c.index-blocks-place.is)
+    (ap (λ (b : NestedBlock). is_subsystem b.part) c.index-blocks-place.is ∙ sym c.is_subsystem.ensures
+    ∙ c.if-is_subsystem.true))
 
 pub returns-else-is_subsystem : goal.returns-else-is_subsystem
 returns-else-is_subsystem c =
     let blocks = c.args.blocks.now in
     let block = c.index-blocks-place.result in
     port_with _ _ c.in-Port.port (c.requires.places.at c.args.place 0 c.requires.there)
-    ∙ sym (ap (end_at blocks c.args.place) c.in-Port.is ∙ port_own blocks c.args.place c.in-Port.port In block (read_at blocks c.args.place block c.requires.there c.index-blocks-place.is) (ap (λ (b : NestedBlock). is_subsystem b.part) c.index-blocks-place.is ∙ sym c.is_subsystem.ensures ∙ c.if-is_subsystem.false))
+    ∙ sym (ap (end_at blocks c.args.place) c.in-Port.is
+    ∙ port_own blocks c.args.place c.in-Port.port In block
+    (read_at blocks c.args.place block c.requires.there c.index-blocks-place.is)
+    (ap (λ (b : NestedBlock). is_subsystem b.part) c.index-blocks-place.is ∙ sym c.is_subsystem.ensures
+    ∙ c.if-is_subsystem.false))

@@ -23,7 +23,10 @@ returns-then-is_subsystem c =
     let block = c.index-blocks-line.result in
     c.first_port.ensures blocks c.requires.places
     ∙ ap (option_map (first_port blocks)) (found_is blocks Out (suc line.from) line.from_port c.first.result c.requires.numbers (c.first.ensures blocks Out c.requires.systems.outs))
-    ∙ sym (port_inner blocks line.from line.from_port Out block (read_at blocks line.from block c.requires.there c.index-blocks-line.is) (ap (λ (b : NestedBlock). is_subsystem b.part) c.index-blocks-line.is ∙ sym c.is_subsystem.ensures ∙ c.if-is_subsystem.true))
+    ∙ sym (port_inner blocks line.from line.from_port Out block
+    (read_at blocks line.from block c.requires.there c.index-blocks-line.is)
+    (ap (λ (b : NestedBlock). is_subsystem b.part) c.index-blocks-line.is ∙ sym c.is_subsystem.ensures
+    ∙ c.if-is_subsystem.true))
 
 pub returns-else-is_subsystem : goal.returns-else-is_subsystem
 returns-else-is_subsystem c =
@@ -31,4 +34,7 @@ returns-else-is_subsystem c =
     let line = c.args.line in
     let block = c.index-blocks-line.result in
     port_with _ _ line.from_port (c.requires.places.at line.from 0 c.requires.there)
-    ∙ sym (port_own blocks line.from line.from_port Out block (read_at blocks line.from block c.requires.there c.index-blocks-line.is) (ap (λ (b : NestedBlock). is_subsystem b.part) c.index-blocks-line.is ∙ sym c.is_subsystem.ensures ∙ c.if-is_subsystem.false))
+    ∙ sym (port_own blocks line.from line.from_port Out block
+    (read_at blocks line.from block c.requires.there c.index-blocks-line.is)
+    (ap (λ (b : NestedBlock). is_subsystem b.part) c.index-blocks-line.is ∙ sym c.is_subsystem.ensures
+    ∙ c.if-is_subsystem.false))

@@ -55,11 +55,17 @@ returns-else-eq-clause-broken c fails keeps =
     other_place c.enable.result c.args.place c.if-eq.ensures (c.enable.ensures ∙ kept.0)
 
 -- what an Inport, an Outport and a subsystem may always
-free : (blocks : List NestedBlock) (place : ℕ) (system : Option ℕ) (part : Part) → (((own : Block) × (number : ℕ) × (part ≡ In own number)) ⊎ (((own : Block) × (number : ℕ) × (part ≡ Out own number)) ⊎ (part ≡ SubSystem))) → MayStandAt blocks place system part
+free : (blocks : List NestedBlock) (place : ℕ) (system : Option ℕ) (part : Part)
+    → (((own : Block) × (number : ℕ) × (part ≡ In own number))
+    ⊎ (((own : Block) × (number : ℕ) × (part ≡ Out own number)) ⊎ (part ≡ SubSystem)))
+    → MayStandAt blocks place system part
 free blocks place system part is =
     elim is [
       | inl inner ↦ subst (λ (p : Part). MayStandAt blocks place system p) (sym inner.2) tt
-      | inr other ↦ elim other [ inl outer ↦ subst (λ (p : Part). MayStandAt blocks place system p) (sym outer.2) tt | inr holds ↦ subst (λ (p : Part). MayStandAt blocks place system p) (sym holds) tt ]
+      | inr other ↦ elim other [
+        | inl outer ↦ subst (λ (p : Part). MayStandAt blocks place system p) (sym outer.2) tt
+        | inr holds ↦ subst (λ (p : Part). MayStandAt blocks place system p) (sym holds) tt
+      ]
     ]
 
 pub returns-in-In-clause-kept : goal.returns-in-In-clause-kept

@@ -16,7 +16,9 @@ use Rattle.dg_flat.proofs.flattening.check.Goals as goal
 abbrev told : Rule → Nested → ℕ → RuleFault → Type 0
 told rule nested place fault = fault ≡ fault_of rule (nested_path nested.blocks place) Nothing
 
-breaks : (rule : Rule) (nested : Nested) (Keeps : Nested → ℕ → NestedBlock → Type 0) (place : ℕ) → IsFirstBroken nested Keeps place → (fault : RuleFault) → told rule nested place fault → BreaksNested nested rule Keeps fault
+breaks : (rule : Rule) (nested : Nested) (Keeps : Nested → ℕ → NestedBlock → Type 0) (place : ℕ)
+    → IsFirstBroken nested Keeps place → (fault : RuleFault) → told rule nested place fault
+    → BreaksNested nested rule Keeps fault
 breaks rule nested Keeps place first fault is = record {
   place = place;
   block = first.block;
@@ -36,7 +38,9 @@ pub refusal-requires-clause-parents : goal.refusal-requires-clause-parents
 refusal-requires-clause-parents c = rw c.as_slice-blocks.ensures (have_parents c.args.nested.now c.requires.sound)
 
 pub refusal-requires-clause-there : goal.refusal-requires-clause-there
-refusal-requires-clause-there c = rw c.as_slice-blocks.ensures (broken_inside c.args.nested.now KeepsWiring c.in-Some.place (subst (IsFirst c.args.nested.now KeepsWiring) c.in-Some.is c.in_ok-place.ensures))
+refusal-requires-clause-there c = rw c.as_slice-blocks.ensures
+    (broken_inside c.args.nested.now KeepsWiring c.in-Some.place
+    (subst (IsFirst c.args.nested.now KeepsWiring) c.in-Some.is c.in_ok-place.ensures))
 
 pub first_misplaced-requires-clause-parents : goal.first_misplaced-requires-clause-parents
 first_misplaced-requires-clause-parents c = have_parents c.args.nested.now c.requires.sound

@@ -15,7 +15,8 @@ flat_edges-requires-clause-ends c = rw (c.as_slice-blocks.ensures, c.as_slice-li
 
 pub returns-clause-flat : goal.returns-clause-flat
 returns-clause-flat c =
-    flat_of c.args.nested.now c.as_slice-blocks.result.now c.as_slice-lines.result.now c.in_ok-blocks.blocks c.in_ok-edges.edges c.as_slice-blocks.ensures c.as_slice-lines.ensures c.in_ok-blocks.ensures
+    flat_of c.args.nested.now c.as_slice-blocks.result.now c.as_slice-lines.result.now c.in_ok-blocks.blocks
+    c.in_ok-edges.edges c.as_slice-blocks.ensures c.as_slice-lines.ensures c.in_ok-blocks.ensures
     c.in_ok-edges.ensures.same c.in_ok-edges.ensures.ordered
 
 pub returns-clause-kept : goal.returns-clause-kept

@@ -23,7 +23,9 @@ pub returns-in-Delay : goal.returns-in-Delay
 returns-in-Delay c = ap (λ list. Delay c.in-Delay.length list c.args.resets) (own c.args.kind.now _ c.args.list c.requires c.in-Delay.is) ∙ sym (ap (resetting c.args.resets) c.in-Delay.is)
 
 pub returns-in-RateTransition : goal.returns-in-RateTransition
-returns-in-RateTransition c = ap (λ list. RateTransition c.in-RateTransition.period list) (own c.args.kind.now _ c.args.list c.requires c.in-RateTransition.is) ∙ sym (ap (resetting c.args.resets) c.in-RateTransition.is)
+returns-in-RateTransition c = ap (λ list. RateTransition c.in-RateTransition.period list)
+    (own c.args.kind.now _ c.args.list c.requires c.in-RateTransition.is)
+    ∙ sym (ap (resetting c.args.resets) c.in-RateTransition.is)
 
 pub returns-in-EnOut : goal.returns-in-EnOut
 returns-in-EnOut c = ap (λ list. EnOut c.in-EnOut.reset list) (own c.args.kind.now _ c.args.list c.requires c.in-EnOut.is) ∙ sym (ap (resetting c.args.resets) c.in-EnOut.is)

@@ -33,7 +33,9 @@ loop-block-preserved c =
     elim c.if-is_some.branch [
       | then-is_some w ↦
           rw w.counts-is
-          (counted_more blocks i block is_such w.slot.result w.index_mut.result.now c.loop-block.counts.items c.requires.parents c.loop-block-test.true c.block-item.is w.slot.ensures w.index_mut.ensures.value (known ∙ w.if-is_some.true) c.loop-block.invariant)
+          (counted_more blocks i block is_such w.slot.result w.index_mut.result.now c.loop-block.counts.items
+          c.requires.parents c.loop-block-test.true c.block-item.is w.slot.ensures w.index_mut.ensures.value
+          (known ∙ w.if-is_some.true) c.loop-block.invariant)
       | else-is_some w ↦
           rw w.counts-is (counted_same blocks i block is_such c.loop-block.counts.items c.loop-block-test.true c.block-item.is (known ∙ w.if-is_some.false) c.loop-block.invariant)
     ]
@@ -41,7 +43,9 @@ loop-block-preserved c =
 pub returns : goal.returns
 returns c =
     let blocks = c.args.blocks.now in
-    subst (λ (done : List NestedBlock). IsTable (suc (length blocks)) (count_at done c.args.side) c.loop-block.counts.items) (take_all c.loop-block.block-index blocks c.loop-block-test.false) c.loop-block.invariant
+    subst (λ (done : List NestedBlock). IsTable (suc (length blocks))
+    (count_at done c.args.side) c.loop-block.counts.items)
+    (take_all c.loop-block.block-index blocks c.loop-block-test.false) c.loop-block.invariant
 
 pub loop-block-init : goal.loop-block-init
 loop-block-init c = rw (c.in_ok-counts.ensures.items_if_clones_equal (λ y same. same)) (table_filled (suc (length c.args.blocks.now)) _ (count_at [] c.args.side) 0 (omega arith) (λ k. refl))

@@ -6,7 +6,8 @@ use Rattle.dg_flat.proofs.Firsts.{slot_back, slot_within}
 use Rattle.dg_flat.proofs.systems.controls.Goals as goal
 
 pub loop-place-init : goal.loop-place-init
-loop-place-init c = subst (λ (controls : List (Option ℕ)). AreControlsTo c.args.blocks.now 0 controls) (sym c.in_ok-controls.ensures.items) (controls_begun c.args.blocks.now c.args.enables.now c.requires.enables)
+loop-place-init c = subst (λ (controls : List (Option ℕ)). AreControlsTo c.args.blocks.now 0 controls)
+    (sym c.in_ok-controls.ensures.items) (controls_begun c.args.blocks.now c.args.enables.now c.requires.enables)
 
 pub loop-place-preserved : goal.loop-place-preserved
 loop-place-preserved c =

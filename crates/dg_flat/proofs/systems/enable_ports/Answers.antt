@@ -17,9 +17,12 @@ loop-place-preserved c =
     elim c.match-block.branch [
       | in-Enable w ↦
           rw (w.ports-is, w.note_first.ensures)
-          (noted_more blocks i block is_enable_port w.slot.result c.loop-place.ports.items c.requires.parents c.loop-place-test.true c.index-blocks-place.is w.slot.ensures (ap is_enable_port w.in-Enable.is) c.loop-place.invariant)
+          (noted_more blocks i block is_enable_port w.slot.result c.loop-place.ports.items c.requires.parents
+          c.loop-place-test.true c.index-blocks-place.is w.slot.ensures
+          (ap is_enable_port w.in-Enable.is) c.loop-place.invariant)
       | in_default w ↦
-          rw w.ports-is (noted_same blocks i block is_enable_port c.loop-place.ports.items c.loop-place-test.true c.index-blocks-place.is (not_enable_port block.part w.in_default.not-Enable) c.loop-place.invariant)
+          rw w.ports-is (noted_same blocks i block is_enable_port c.loop-place.ports.items c.loop-place-test.true
+          c.index-blocks-place.is (not_enable_port block.part w.in_default.not-Enable) c.loop-place.invariant)
     ]
 
 pub note_first-requires : goal.note_first-requires
@@ -34,4 +37,6 @@ returns c =
     (take_all c.loop-place.place c.args.blocks.now c.loop-place-test.false) c.loop-place.invariant
 
 pub loop-place-init : goal.loop-place-init
-loop-place-init c = rw (c.in_ok-ports.ensures.items_if_clones_equal (search rules)) (table_filled (suc (length c.args.blocks.now)) _ (λ slot. first_in [] (system_of slot) is_enable_port) None (omega arith) (λ k. refl))
+loop-place-init c = rw (c.in_ok-ports.ensures.items_if_clones_equal (search rules))
+    (table_filled (suc (length c.args.blocks.now)) _ (λ slot. first_in [] (system_of slot) is_enable_port) None
+    (omega arith) (λ k. refl))

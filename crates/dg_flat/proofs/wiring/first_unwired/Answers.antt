@@ -7,7 +7,9 @@ use Rattle.dg_flat.proofs.wiring.first_unwired.Goals as goal
 pub returns-then-not-keeps_wiring : goal.returns-then-not-keeps_wiring
 returns-then-not-keeps_wiring c = record {
   block = c.index-blocks-place.result;
-  there = read_at c.args.nested.now.blocks c.loop-place.place c.index-blocks-place.result (rw c.as_slice-blocks.ensures at c.loop-place-test.true) (rw c.as_slice-blocks.ensures at c.index-blocks-place.is);
+  there = read_at c.args.nested.now.blocks c.loop-place.place c.index-blocks-place.result
+      (rw c.as_slice-blocks.ensures at c.loop-place-test.true)
+      (rw c.as_slice-blocks.ensures at c.index-blocks-place.is);
   broken = c.if-not-keeps_wiring.ensures.broken refl;
   before = c.loop-place.invariant;
 }
@@ -26,7 +28,9 @@ keeps_wiring-requires c = record {
   parents = c.requires.parents;
   systems = c.requires.systems;
   tally = rw (c.as_slice-blocks.ensures, c.as_slice.ensures) at c.in_ok-tally.ensures;
-  there = read_at c.args.nested.now.blocks c.loop-place.place c.index-blocks-place.result (rw c.as_slice-blocks.ensures at c.loop-place-test.true) (rw c.as_slice-blocks.ensures at c.index-blocks-place.is);
+  there = read_at c.args.nested.now.blocks c.loop-place.place c.index-blocks-place.result
+      (rw c.as_slice-blocks.ensures at c.loop-place-test.true)
+      (rw c.as_slice-blocks.ensures at c.index-blocks-place.is);
 }
 
 pub of-requires-clause-systems : goal.of-requires-clause-systems

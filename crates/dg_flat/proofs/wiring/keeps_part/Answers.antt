@@ -24,15 +24,19 @@ returns-in-In-clause-kept c = λ yes.
 
 pub returns-in-In-clause-broken : goal.returns-in-In-clause-broken
 returns-in-In-clause-broken c = λ not.
-    in_broken c.args.known.nested.now c.args.place c.in-In.number c.args.block.now c.in-In.field-0 c.requires.there c.in-In.is (c.is_numbered.ensures.no not c.args.known.nested.now.blocks In c.requires.systems.ins)
+    in_broken c.args.known.nested.now c.args.place c.in-In.number c.args.block.now c.in-In.field-0 c.requires.there
+    c.in-In.is (c.is_numbered.ensures.no not c.args.known.nested.now.blocks In c.requires.systems.ins)
 
 pub returns-in-Out-clause-kept : goal.returns-in-Out-clause-kept
 returns-in-Out-clause-kept c = λ yes.
-    out_kept c.args.known.nested.now c.args.place c.in-Out.number c.args.block.now c.in-Out.field-0 c.in-Out.is (c.is_numbered-in-Out.ensures.yes yes c.args.known.nested.now.blocks Out c.requires.systems.outs)
+    out_kept c.args.known.nested.now c.args.place c.in-Out.number c.args.block.now c.in-Out.field-0 c.in-Out.is
+    (c.is_numbered-in-Out.ensures.yes yes c.args.known.nested.now.blocks Out c.requires.systems.outs)
 
 pub returns-in-Out-clause-broken : goal.returns-in-Out-clause-broken
 returns-in-Out-clause-broken c = λ not.
-    out_broken c.args.known.nested.now c.args.place c.in-Out.number c.args.block.now c.in-Out.field-0 c.requires.there c.in-Out.is (c.is_numbered-in-Out.ensures.no not c.args.known.nested.now.blocks Out c.requires.systems.outs)
+    out_broken c.args.known.nested.now c.args.place c.in-Out.number c.args.block.now c.in-Out.field-0
+    c.requires.there c.in-Out.is
+    (c.is_numbered-in-Out.ensures.no not c.args.known.nested.now.blocks Out c.requires.systems.outs)
 
 pub returns-in-Some-clause-kept : goal.returns-in-Some-clause-kept
 returns-in-Some-clause-kept c = λ yes.

@@ -14,14 +14,18 @@ pub returns-then-not-is_driven-clause-broken : goal.returns-then-not-is_driven-c
 returns-then-not-is_driven-clause-broken c = λ not keeps.
     let inside = some_inside c.args.known.nested.now.blocks c.args.place c.args.block.now c.requires.there in
     let port = c.if-not-is_driven.ensures.some refl in
-    not_driven c.args.known.nested.now c.args.place port.0 c.args.block.now c.args.known.tally.now.rows.lengths.items c.args.known.tally.now.drivers.items c.requires.tally.lengths c.requires.tally.drivers inside c.requires.there port.1 port.2 keeps
+    not_driven c.args.known.nested.now c.args.place port.0 c.args.block.now
+    c.args.known.tally.now.rows.lengths.items c.args.known.tally.now.drivers.items c.requires.tally.lengths
+    c.requires.tally.drivers inside c.requires.there port.1 port.2 keeps
 
 pub returns-clause-kept : goal.returns-clause-kept
 returns-clause-kept c = λ is.
     let inside = some_inside c.args.known.nested.now.blocks c.args.place c.args.block.now c.requires.there in
     let lacks = c.index.ensures ∙ c.requires.tally.lacks.at c.args.place c.index.result.now inside in
     put_together c.args.known.nested.now c.args.place c.args.block.now (meets c.args.known.nested.now c.args.place c.args.block.now c.requires.there (sym lacks ∙ c.if-index.false))
-    (all_driven c.args.known.nested.now c.args.place c.args.block.now c.args.known.tally.now.rows.lengths.items c.args.known.tally.now.drivers.items c.requires.tally.lengths c.requires.tally.drivers inside c.requires.there (c.if-not-is_driven.ensures.all refl))
+    (all_driven c.args.known.nested.now c.args.place c.args.block.now c.args.known.tally.now.rows.lengths.items
+    c.args.known.tally.now.drivers.items c.requires.tally.lengths c.requires.tally.drivers inside
+    c.requires.there (c.if-not-is_driven.ensures.all refl))
     (c.keeps_part.ensures.kept is)
 
 pub returns-clause-broken : goal.returns-clause-broken

@@ -7,7 +7,9 @@ use Rattle.dg_model.proofs.laws.columns_are_a_stimulus.Goals as goal
 pub returns-clause-made : goal.returns-clause-made
 returns-clause-made c diagram attributes column n wired columns = record {
   in_range = λ block b number element t at is inside below hit.
-      columns _ (root_element attributes number block element) t (found_at root_input (λ block. attributes.width_at block 1) diagram attributes wired.inports block b number element at is inside) below hit;
+      columns _ (root_element attributes number block element) t
+      (found_at root_input (λ block. attributes.width_at block 1) diagram attributes wired.inports block b
+      number element at is inside) below hit;
 }
 
 pub returns-clause-kept : goal.returns-clause-kept

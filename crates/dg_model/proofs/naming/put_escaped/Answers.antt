@@ -17,7 +17,9 @@ loop-byte-preserved c =
     let i = c.loop-byte.byte-index in
     let byte = get_or name i 0 in
     let more : old ++ escaped (take (i + 1) name) ≡ (old ++ escaped (take i name)) ++ escaped (byte ∷ []) =
-    ap (λ (done : List ℕ). old ++ done) (ap escaped (take_more name i 0 c.loop-byte-test.true) ∙ flat_map-append _ (take i name) (byte ∷ [])) ∙ sym (append_assoc old (escaped (take i name)) (escaped (byte ∷ []))) in
+    ap (λ (done : List ℕ). old ++ done) (ap escaped (take_more name i 0 c.loop-byte-test.true)
+    ∙ flat_map-append _ (take i name) (byte ∷ []))
+    ∙ sym (append_assoc old (escaped (take i name)) (escaped (byte ∷ []))) in
     let put = c.in_ok-push.ensures.items ∙ ap (λ (done : List ℕ). done ++ byte ∷ []) c.loop-byte.invariant in
     elim c.if-byte-eq47.branch [
       | then-byte-eq47+in_ok-push-2 w ↦

@@ -16,7 +16,8 @@ driven c = c.sources_of.ensures.value ∙ c.requires.sources.row c.loop-place.pl
 
 pub asked_of-asked-requires : goal.asked_of-asked-requires
 asked_of-asked-requires c = λ some.
-    subst (λ (xs : List ℕ). 0 < length xs) (sym (driven (goal.at.asked_of-asked-requires c).After-sources_of)) (some_source (drivers_of c.args.diagram.now c.loop-place.place) c.block-item.result.enable some)
+    subst (λ (xs : List ℕ). 0 < length xs) (sym (driven (goal.at.asked_of-asked-requires c).After-sources_of))
+    (some_source (drivers_of c.args.diagram.now c.loop-place.place) c.block-item.result.enable some)
 
 pub disagreeing-requires : goal.disagreeing-requires
 disagreeing-requires c =
@@ -33,7 +34,9 @@ returns-in-Some-clause-refused c =
     let place = c.loop-place.place in
     let block = c.block-item.result in
     breaks_periods diagram periods place block c.in-Some.source c.in_ok-fault.fault (stands point)
-    (found_is diagram periods place block c.sources_of.result.now c.joins_periods.result c.asked_of-asked.result.now (Some c.in-Some.source) (driven point) c.joins_periods.ensures c.asked_of-asked.ensures c.in-Some.ensures.first)
+    (found_is diagram periods place block c.sources_of.result.now c.joins_periods.result c.asked_of-asked.result.now
+    (Some c.in-Some.source)
+    (driven point) c.joins_periods.ensures c.asked_of-asked.ensures c.in-Some.ensures.first)
     c.loop-place.invariant c.in_ok-fault.ensures
 
 pub loop-place-preserved : goal.loop-place-preserved
@@ -44,7 +47,9 @@ loop-place-preserved c =
     let place = c.loop-place.place in
     let block = c.block-item.result in
     keep_more diagram (KeepsPeriods diagram periods) place block (stands point)
-    (found_is diagram periods place block c.sources_of.result.now c.joins_periods.result c.asked_of-asked.result.now None (driven point) c.joins_periods.ensures c.asked_of-asked.ensures (sym c.in_default.is ∙ c.disagreeing.ensures.first))
+    (found_is diagram periods place block c.sources_of.result.now c.joins_periods.result c.asked_of-asked.result.now
+    None (driven point) c.joins_periods.ensures c.asked_of-asked.ensures
+    (sym c.in_default.is ∙ c.disagreeing.ensures.first))
     c.loop-place.invariant
 
 pub returns-clause-kept : goal.returns-clause-kept

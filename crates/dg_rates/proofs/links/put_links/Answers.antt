@@ -51,7 +51,9 @@ loop-place-init c =
     let past : length diagram.edges ≤ c.loop-edge.edge-index = rw c.as_slice-edges.ensures at c.loop-edge-test.false in
     record {
       tied = c.loop-edge.invariant.tied;
-      controlled = controlled_first diagram sources (subst (λ edges. AreDrivers (length diagram.blocks) edges sources) (take_all c.loop-edge.edge-index diagram.edges past) c.loop-edge.invariant.drivers);
+      controlled = controlled_first diagram sources
+          (subst (λ edges. AreDrivers (length diagram.blocks) edges sources)
+          (take_all c.loop-edge.edge-index diagram.edges past) c.loop-edge.invariant.drivers);
     }
 
 pub push_at-requires : goal.push_at-requires

@@ -21,7 +21,8 @@ returns-in_err-first-clause-refused c =
     let diagram = c.args.diagram.now in
     let p = err_from_is_err_and c.from_residual.result c.from_residual.ensures.1 in
     rw (p.1, p.2)
-    (refused_as (BreaksAt diagram Rule.Rate (KeepsDeclared diagram) (λ place block. Word (codes "declared"))) (BreaksRate diagram) c.in_err-first.field-0.0 (λ fault broken. inl broken) c.in_err-first.ensures.refused)
+    (refused_as (BreaksAt diagram Rule.Rate (KeepsDeclared diagram) (λ place block. Word (codes "declared")))
+    (BreaksRate diagram) c.in_err-first.field-0.0 (λ fault broken. inl broken) c.in_err-first.ensures.refused)
 
 pub check_periods-requires-clause-periods : goal.check_periods-requires-clause-periods
 check_periods-requires-clause-periods c =

@@ -14,7 +14,10 @@ returns-in_err-widths-clause-broken c =
 pub returns-in_err-typed-clause-broken : goal.returns-in_err-typed-clause-broken
 returns-in_err-typed-clause-broken c =
     let p = err_from_is_err_and c.from_residual-in_err-typed.result c.from_residual-in_err-typed.ensures.1 in
-    rw (p.1, p.2) (refused_as (BreaksType c.args.diagram.now) (BreaksRule c.args.diagram.now) c.in_err-typed.field-0.0 (λ fault broken. inr (inl (record { dimensions = c.in_ok-widths.ensures.kept; types = broken }))) c.in_err-typed.ensures.refused)
+    rw (p.1, p.2) (refused_as (BreaksType c.args.diagram.now)
+    (BreaksRule c.args.diagram.now) c.in_err-typed.field-0.0
+    (λ fault broken. inr (inl (record { dimensions = c.in_ok-widths.ensures.kept; types = broken })))
+    c.in_err-typed.ensures.refused)
 
 pub timing_of-requires : goal.timing_of-requires
 timing_of-requires c = record { wired = c.requires; dimensions = c.in_ok-widths.ensures.kept; types = c.in_ok-typed.ensures.kept }

@@ -10,7 +10,14 @@ use Rattle.dg_rules.proofs.checking.timing_of.Goals as goal
 pub returns-in_err-periods-clause-broken : goal.returns-in_err-periods-clause-broken
 returns-in_err-periods-clause-broken c =
     let p = err_from_is_err_and c.from_residual.result c.from_residual.ensures.1 in
-    rw (p.1, p.2) (refused_as (BreaksRate c.args.diagram.now) (BreaksRule c.args.diagram.now) c.in_err-periods.field-0.0 (λ fault broken. inr (inr (inl (record { dimensions = c.requires.dimensions; types = c.requires.types; rates = broken })))) c.in_err-periods.ensures.refused)
+    rw (p.1, p.2) (refused_as (BreaksRate c.args.diagram.now)
+    (BreaksRule c.args.diagram.now) c.in_err-periods.field-0.0
+    (λ fault broken. inr (inr (inl (record {
+      dimensions = c.requires.dimensions;
+      types =
+          c.requires.types;
+      rates = broken;
+    })))) c.in_err-periods.ensures.refused)
 
 pub returns-in-Ok : goal.returns-in-Ok
 returns-in-Ok c = record {

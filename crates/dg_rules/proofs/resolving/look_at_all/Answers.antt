@@ -25,8 +25,12 @@ loop-place-preserved c =
     let number : c.in_ok-number.number ≡ position (has block.path) plan.pipelines =
     c.in_ok-number.ensures plan.pipelines c.requires.lines c.requires.ends ∙ ap (λ (b : Block). position (has b.path) plan.pipelines) (sym c.index-blocks-place.is) in
     let more : suc place ≡ place + 1 = omega arith in
-    let standings : AreStandings diagram (attributes_of diagram) (suc place) plan.pipelines (looked_at (position (has block.path) plan.pipelines) c.may_be_pipelined-may.result c.loop-place.standings.items) =
-    one_looked_at diagram (attributes_of diagram) plan.pipelines place block c.may_be_pipelined-may.result c.loop-place.standings.items c.requires.different at (c.may_be_pipelined-may.ensures block at) c.loop-place.invariant.standings in
+    let standings : AreStandings diagram (attributes_of diagram) (suc place) plan.pipelines
+    (looked_at (position (has block.path) plan.pipelines) c.may_be_pipelined-may.result
+    c.loop-place.standings.items) =
+    one_looked_at diagram (attributes_of diagram) plan.pipelines place block c.may_be_pipelined-may.result
+    c.loop-place.standings.items c.requires.different at
+    (c.may_be_pipelined-may.ensures block at) c.loop-place.invariant.standings in
     let items : c.look_at-count.new.standings.items ≡ looked_at (position (has block.path) plan.pipelines) c.may_be_pipelined-may.result c.loop-place.standings.items =
     c.look_at-count.ensures.standings ∙ ap (λ (n : Option ℕ). looked_at n c.may_be_pipelined-may.result c.loop-place.standings.items) number in
     let count : c.look_at-count.result ≡ count_of plan block.path =

@@ -28,7 +28,8 @@ returns-in-Some-clause-refused c =
     subst (λ (ls : List Pipeline). slice_get ls c.in-Some.number ≡ Some line) c.as_slice-pipelines.ensures
     (slice_get-get_or c.as_slice-pipelines.result.now c.in-Some.number _ number ∙ ap Some (sym c.index-pipelines-number.is)) in
     refused_as (λ fault. fault ≡ fault_of Rule.Plan line.path Nothing) (BreaksPlan diagram (attributes_of diagram) c.args.plan.now) c.refusal.result
-    (λ fault is. plan_broken diagram (attributes_of diagram) c.args.plan.now c.in_ok-walk.walk.standings.items c.in_ok-walk.ensures.standings c.in-Some.number line fault at missing before is) c.refusal.ensures
+    (λ fault is. plan_broken diagram (attributes_of diagram) c.args.plan.now c.in_ok-walk.walk.standings.items
+    c.in_ok-walk.ensures.standings c.in-Some.number line fault at missing before is) c.refusal.ensures
 
 pub returns-clause-kept : goal.returns-clause-kept
 returns-clause-kept c =

@@ -33,7 +33,12 @@ rule_by_kind-requires c =
     let blocks = c.as_slice-2.ensures ∙ ap (λ (d : Diagram). d.blocks) c.diagram.ensures in
     record {
       roots = c.requires.roots;
-      turn = turn_of c.args.checked.now c.args.starts.now c.args.program.now.places c.args.k _ c.index-as_slice-place.result (record { checked = c.keeps_rules.ensures.checked; ordered = c.keeps_rules.ensures.ordered }) c.requires.finds (here point _) (entry point _)
+      turn = turn_of c.args.checked.now c.args.starts.now c.args.program.now.places c.args.k _
+          c.index-as_slice-place.result (record {
+            checked = c.keeps_rules.ensures.checked;
+            ordered =
+                c.keeps_rules.ensures.ordered;
+          }) c.requires.finds (here point _) (entry point _)
           (block_there diagram (attributes_of diagram) _ c.as_slice-2.result.now c.index-as_slice-place.result blocks (entry point _) c.index-as_slice-place.is);
       entries = c.requires.filled.entries;
       paired = c.requires.filled.paired;
@@ -49,7 +54,10 @@ pub returns-clause-filled : goal.returns-clause-filled
 returns-clause-filled c =
     let diagram = c.args.checked.now.diagram in
     on_ok_weaker c.push.result
-    (λ added. filled_more diagram (attributes_of diagram) c.args.program.now c.rule_by_kind.new.program c.args.k _ c.in_ok-rule.rule c.period-period.result c.push.new.self c.requires.filled (here (goal.at.returns-clause-filled c).After-as_slice _) c.in_ok-rule.ensures.made c.period-period.ensures added)
+    (λ added. filled_more diagram (attributes_of diagram) c.args.program.now c.rule_by_kind.new.program c.args.k _
+    c.in_ok-rule.rule c.period-period.result c.push.new.self c.requires.filled
+    (here (goal.at.returns-clause-filled c).After-as_slice _) c.in_ok-rule.ensures.made
+    c.period-period.ensures added)
     c.push.ensures.appended
 
 pub returns-clause-places : goal.returns-clause-places

@@ -12,7 +12,8 @@ loop-low-preserved-then-is_before c =
     let below : middle < length c.args.roots.now = omega (arith, c.loop-low.invariant.0) in (
       c.loop-low.invariant.0,
       (λ place at.
-          let after : middle < place = stands_after c.args.roots.now c.requires.sorted place middle c.args.root _ at (slice_get-get_or c.args.roots.now middle _ below) (sym c.is_before.ensures ∙ c.if-is_before.true) in
+          let after : middle < place = stands_after c.args.roots.now c.requires.sorted place middle c.args.root _ at
+          (slice_get-get_or c.args.roots.now middle _ below) (sym c.is_before.ensures ∙ c.if-is_before.true) in
           (omega (arith, after), (c.loop-low.invariant.1 place at).1)),
     )
 
@@ -22,7 +23,8 @@ loop-low-preserved c =
     let below : middle < length c.args.roots.now = omega (arith, c.loop-low.invariant.0) in (
       omega (arith, below),
       (λ place at.
-          let up_to : place ≤ middle = stands_up_to c.args.roots.now c.requires.sorted place middle c.args.root _ at (slice_get-get_or c.args.roots.now middle _ below) (sym c.is_before.ensures ∙ c.if-is_before.false) in
+          let up_to : place ≤ middle = stands_up_to c.args.roots.now c.requires.sorted place middle c.args.root _ at
+          (slice_get-get_or c.args.roots.now middle _ below) (sym c.is_before.ensures ∙ c.if-is_before.false) in
           ((c.loop-low.invariant.1 place at).0, up_to)),
     )
 

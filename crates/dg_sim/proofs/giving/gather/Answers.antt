@@ -7,4 +7,5 @@ pub returns : goal.returns
 returns c =
     let args = c.args.args.now in
     let all : c.loop-i.i ≡ length args = omega (arith, c.loop-i-test.false, c.loop-i.auto.i-end) in
-    subst (λ (n : ℕ). take n c.loop-i.inputs ≡ map (value_at c.args.row.now) (take n args)) all c.loop-i.invariant ∙ ap (map (value_at c.args.row.now)) (take_all (length args) args (le_refl (length args)))
+    subst (λ (n : ℕ). take n c.loop-i.inputs ≡ map (value_at c.args.row.now) (take n args)) all c.loop-i.invariant
+    ∙ ap (map (value_at c.args.row.now)) (take_all (length args) args (le_refl (length args)))

@@ -22,7 +22,9 @@ work-requires c =
     }
 
 -- what the rule that was found gives is what the own rule gives
-gives_own : (program : Program) (look : ℕ → ℤ) (kept : ℕ → List ℤ) (row : List ℤ) (t : ℕ) (own found : Rule) (v : ℤ) → FitsSigned w128 v → own ≡ found → Gives program look kept row t found v → Gives program look kept row t own (to_z w128 (of_z w128 v))
+gives_own : (program : Program) (look : ℕ → ℤ) (kept : ℕ → List ℤ) (row : List ℤ) (t : ℕ) (own found : Rule) (v : ℤ)
+    → FitsSigned w128 v → own ≡ found → Gives program look kept row t found v
+    → Gives program look kept row t own (to_z w128 (of_z w128 v))
 gives_own program look kept row t own found v fits is gives = rw (to_z-of_z w128 v fits) (subst (λ (rule : Rule). Gives program look kept row t rule v) (sym is) gives)
 
 pub returns-in-Works : goal.returns-in-Works
@@ -31,7 +33,9 @@ returns-in-Works c =
 
 pub returns-in-Input : goal.returns-in-Input
 returns-in-Input c =
-    gives_own c.args.program.now (value_at c.args.row.now) (kept_at c.args.pasts.now) c.args.numbers.now c.args.t _ _ c.value_in.result (record { sfits = c.value_in.type_inv }) c.in-Input.is c.value_in.ensures
+    gives_own c.args.program.now (value_at c.args.row.now)
+    (kept_at c.args.pasts.now) c.args.numbers.now c.args.t _ _ c.value_in.result
+    (record { sfits = c.value_in.type_inv }) c.in-Input.is c.value_in.ensures
 
 pub returns-in-Same : goal.returns-in-Same
 returns-in-Same c =
@@ -44,15 +48,21 @@ returns-in-Fixed c =
 pub returns-in-Past : goal.returns-in-Past
 returns-in-Past c =
     let kept = rw (to_z-of_z w128 c.in-Past.initial (search rules)) at c.memory_value.ensures in
-    gives_own c.args.program.now (value_at c.args.row.now) (kept_at c.args.pasts.now) c.args.numbers.now c.args.t _ _ c.memory_value.result (record { sfits = c.memory_value.type_inv }) c.in-Past.is kept
+    gives_own c.args.program.now (value_at c.args.row.now)
+    (kept_at c.args.pasts.now) c.args.numbers.now c.args.t _ _ c.memory_value.result
+    (record { sfits = c.memory_value.type_inv }) c.in-Past.is kept
 
 pub returns-in-Held : goal.returns-in-Held
 returns-in-Held c =
     let kept = rw (to_z-of_z w128 c.in-Held.initial (search rules)) at c.memory_value-in-Held.ensures in
     let given = rw (to_z-of_z w128 c.memory_value-in-Held.result (record { sfits = c.memory_value-in-Held.type_inv }), kept) at c.read_where_on.ensures in
-    gives_own c.args.program.now (value_at c.args.row.now) (kept_at c.args.pasts.now) c.args.numbers.now c.args.t _ _ c.read_where_on.result (record { sfits = c.read_where_on.type_inv }) c.in-Held.is given
+    gives_own c.args.program.now (value_at c.args.row.now)
+    (kept_at c.args.pasts.now) c.args.numbers.now c.args.t _ _ c.read_where_on.result
+    (record { sfits = c.read_where_on.type_inv }) c.in-Held.is given
 
 pub returns-in-Reset : goal.returns-in-Reset
 returns-in-Reset c =
     let given = rw (to_z-of_z w128 c.in-Reset.initial (search rules)) at c.read_where_on-in-Reset.ensures in
-    gives_own c.args.program.now (value_at c.args.row.now) (kept_at c.args.pasts.now) c.args.numbers.now c.args.t _ _ c.read_where_on-in-Reset.result (record { sfits = c.read_where_on-in-Reset.type_inv }) c.in-Reset.is given
+    gives_own c.args.program.now (value_at c.args.row.now)
+    (kept_at c.args.pasts.now) c.args.numbers.now c.args.t _ _ c.read_where_on-in-Reset.result
+    (record { sfits = c.read_where_on-in-Reset.type_inv }) c.in-Reset.is given

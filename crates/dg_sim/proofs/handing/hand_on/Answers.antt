@@ -10,5 +10,7 @@ returns c =
     record {
       grows = grows_same c.args.program.now;
       memories = λ are. are;
-      made = same_rule diagram (attributes_of diagram) c.args.program.now c.args.turn.cell c.args.turn.place c.args.port c.args.element from.result from.ensures.reads (from.ensures.before c.args.turn.cell c.requires.now) c.requires.hands;
+      made = same_rule diagram (attributes_of diagram) c.args.program.now c.args.turn.cell c.args.turn.place
+          c.args.port c.args.element from.result from.ensures.reads
+          (from.ensures.before c.args.turn.cell c.requires.now) c.requires.hands;
     }

@@ -25,10 +25,14 @@ hand_on-requires c =
     let now : reads_now diagram (attributes_of diagram) place.block kind ≡ true = ap (λ (slower : Bool). not slower) driver in
     let ports = (ports_are diagram c.requires.turn.rules.checked.wired place.block b c.requires.turn.shown.block_is kind c.requires.kind.1).0 in
     record {
-      hands = fast_hands diagram (attributes_of diagram) c.args.program.now c.args.program.now place b c.requires.turn.shown.block_is slow c.requires.kind.0 c.args.initial.now c.requires.kind.1 c.period_of_input-slow.ensures own;
+      hands = fast_hands diagram (attributes_of diagram) c.args.program.now c.args.program.now place b
+          c.requires.turn.shown.block_is slow c.requires.kind.0 c.args.initial.now c.requires.kind.1
+          c.period_of_input-slow.ensures own;
       finds = c.requires.turn.finds;
       now = turn_now checked c.args.turn.starts.now c.args.program.now.places c.args.turn.cell place b c.requires.turn kind c.requires.kind.1 now;
-      read = turn_read checked c.args.turn.starts.now c.args.program.now.places c.args.turn.cell place b c.requires.turn kind c.requires.kind.1 c.requires.turn.rules.checked refl 1 (omega arith) (omega (arith, ports));
+      read = turn_read checked c.args.turn.starts.now c.args.program.now.places c.args.turn.cell place b
+          c.requires.turn kind c.requires.kind.1 c.requires.turn.rules.checked refl 1 (omega arith)
+          (omega (arith, ports));
     }
 
 pub period-own-requires : goal.period-own-requires

@@ -9,16 +9,23 @@ use Rattle.dg_sim.proofs.joining.part_into.Goals as goal
 use Rattle.dg_sim.proofs.joining.part_into.Goals.{After-start_cursor-start, In-loop-width}
 
 -- the first ports have so many elements together
-at_start : (c : After-start_cursor-start) → c.start_cursor-start.result.before ≡ sum (map (width_into c.args.checked.now.diagram (attributes_of c.args.checked.now.diagram) c.args.block) (numbers_from 1 c.start_cursor-start.result.ports))
+at_start : (c : After-start_cursor-start)
+    → c.start_cursor-start.result.before ≡ sum
+    (map (width_into c.args.checked.now.diagram (attributes_of c.args.checked.now.diagram) c.args.block)
+    (numbers_from 1 c.start_cursor-start.result.ports))
 at_start c = c.start_cursor-start.ensures.sums (width_into c.args.checked.now.diagram (attributes_of c.args.checked.now.diagram)) c.requires.into
 
 -- none of them is the last
 start_below : (c : After-start_cursor-start) → c.start_cursor-start.result.ports < c.args.inputs
 start_below c =
-    before_end (width_into c.args.checked.now.diagram (attributes_of c.args.checked.now.diagram) c.args.block) c.args.inputs c.start_cursor-start.result.ports c.start_cursor-start.result.before c.args.element c.start_cursor-start.ensures.ports (at_start c) c.start_cursor-start.ensures.before c.requires.element
+    before_end (width_into c.args.checked.now.diagram (attributes_of c.args.checked.now.diagram) c.args.block)
+    c.args.inputs c.start_cursor-start.result.ports c.start_cursor-start.result.before c.args.element
+    c.start_cursor-start.ensures.ports (at_start c) c.start_cursor-start.ensures.before c.requires.element
 
 -- so it is with one port more
-at_next : (c : In-loop-width) → c.loop-width.before + c.loop-width.width ≡ sum (map (width_into c.args.checked.now.diagram (attributes_of c.args.checked.now.diagram) c.args.block) (numbers_from 1 (c.loop-width.signal + 1)))
+at_next : (c : In-loop-width) → c.loop-width.before + c.loop-width.width
+    ≡ sum (map (width_into c.args.checked.now.diagram (attributes_of c.args.checked.now.diagram) c.args.block)
+    (numbers_from 1 (c.loop-width.signal + 1)))
 at_next c =
     let inv = c.loop-width.invariant in
     omega (arith, inv.at, sum_last (width_into c.args.checked.now.diagram (attributes_of c.args.checked.now.diagram) c.args.block) c.loop-width.signal, inv.width)
@@ -28,7 +35,9 @@ next_low c = omega (arith, c.loop-width.invariant.low, c.loop-width-test.true)
 
 next_below : (c : In-loop-width) → c.loop-width.signal + 1 < c.args.inputs
 next_below c =
-    before_end (width_into c.args.checked.now.diagram (attributes_of c.args.checked.now.diagram) c.args.block) c.args.inputs (c.loop-width.signal + 1) (c.loop-width.before + c.loop-width.width) c.args.element (omega (arith, c.loop-width.invariant.below)) (at_next c) (next_low c) c.requires.element
+    before_end (width_into c.args.checked.now.diagram (attributes_of c.args.checked.now.diagram) c.args.block)
+    c.args.inputs (c.loop-width.signal + 1) (c.loop-width.before + c.loop-width.width) c.args.element
+    (omega (arith, c.loop-width.invariant.below)) (at_next c) (next_low c) c.requires.element
 
 pub loop-width-init : goal.loop-width-init
 loop-width-init c =

@@ -15,7 +15,8 @@ part_into-part-requires c =
     record {
       into = c.requires.cursors.into;
       lines = c.requires.turn.finds.lines;
-      element = mux_below diagram c.requires.turn.rules.checked c.args.turn.place.block c.args.turn.block.now c.args.turn.place.port c.args.turn.place.element c.requires.turn.shown c.in-Mux.sizes c.in-Mux.is;
+      element = mux_below diagram c.requires.turn.rules.checked c.args.turn.place.block c.args.turn.block.now
+          c.args.turn.place.port c.args.turn.place.element c.requires.turn.shown c.in-Mux.sizes c.in-Mux.is;
     }
 
 pub hand_on-requires : goal.hand_on-requires
@@ -23,9 +24,12 @@ hand_on-requires c =
     let diagram = c.args.turn.checked.now.diagram in
     let part = c.part_into-part.ensures in
     record {
-      hands = mux_hands diagram (attributes_of diagram) c.args.turn.place c.args.turn.block.now c.requires.turn.shown.block_is c.in-Mux.sizes part.0 c.part_into-part.result.port c.part_into-part.result.element c.in-Mux.is part.1 part.2;
+      hands = mux_hands diagram (attributes_of diagram) c.args.turn.place c.args.turn.block.now
+          c.requires.turn.shown.block_is c.in-Mux.sizes part.0 c.part_into-part.result.port
+          c.part_into-part.result.element c.in-Mux.is part.1 part.2;
       finds = c.requires.turn.finds;
-      now = turn_now c.args.turn.checked.now c.args.turn.starts.now c.args.program.now.places c.args.turn.cell c.args.turn.place c.args.turn.block.now c.requires.turn (Mux c.in-Mux.sizes) c.in-Mux.is refl;
+      now = turn_now c.args.turn.checked.now c.args.turn.starts.now c.args.program.now.places c.args.turn.cell
+          c.args.turn.place c.args.turn.block.now c.requires.turn (Mux c.in-Mux.sizes) c.in-Mux.is refl;
       read = subst (λ (port : ℕ). IsRead diagram (attributes_of diagram) c.args.turn.place.block port c.part_into-part.result.element) (sym part.1)
           (part_read diagram c.requires.turn.rules.checked c.args.turn.place.block c.args.turn.block.now.inputs c.args.turn.place.element part.0 c.part_into-part.result.element part.2);
     }
@@ -51,12 +55,18 @@ pub hand_on-requires-in-Demux : goal.hand_on-requires-in-Demux
 hand_on-requires-in-Demux c =
     let diagram = c.args.turn.checked.now.diagram in
     let before : ℕ = c.width_before-before.result in
-    let at : before + c.args.turn.place.element ≡ sum (map ((attributes_of diagram).width_at c.args.turn.place.block) (numbers_from 1 (c.args.turn.place.port - 1))) + c.args.turn.place.element = ap (λ (n : ℕ). n + c.args.turn.place.element) c.width_before-before.ensures in
+    let at : before + c.args.turn.place.element
+    ≡ sum (map ((attributes_of diagram).width_at c.args.turn.place.block)
+    (numbers_from 1 (c.args.turn.place.port - 1))) + c.args.turn.place.element =
+    ap (λ (n : ℕ). n + c.args.turn.place.element) c.width_before-before.ensures in
     record {
       hands = demux_hands diagram (attributes_of diagram) c.args.turn.place c.args.turn.block.now c.requires.turn.shown.block_is c.in-Demux.sizes (before + c.args.turn.place.element) c.in-Demux.is at;
       finds = c.requires.turn.finds;
-      now = turn_now c.args.turn.checked.now c.args.turn.starts.now c.args.program.now.places c.args.turn.cell c.args.turn.place c.args.turn.block.now c.requires.turn (Demux c.in-Demux.sizes) c.in-Demux.is refl;
-      read = demux_read diagram c.requires.turn.rules.checked c.args.turn.place.block c.args.turn.block.now c.args.turn.place.port c.args.turn.place.element c.requires.turn.shown c.in-Demux.sizes (before + c.args.turn.place.element) c.in-Demux.is at;
+      now = turn_now c.args.turn.checked.now c.args.turn.starts.now c.args.program.now.places c.args.turn.cell
+          c.args.turn.place c.args.turn.block.now c.requires.turn (Demux c.in-Demux.sizes) c.in-Demux.is refl;
+      read = demux_read diagram c.requires.turn.rules.checked c.args.turn.place.block c.args.turn.block.now
+          c.args.turn.place.port c.args.turn.place.element c.requires.turn.shown c.in-Demux.sizes
+          (before + c.args.turn.place.element) c.in-Demux.is at;
     }
 
 pub overflow_add-before : goal.overflow_add-before

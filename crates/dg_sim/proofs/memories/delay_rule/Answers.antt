@@ -15,21 +15,31 @@ own_stored-first-requires-clause-there c = c.requires.turn.shown.block_is
 pub remember-requires-clause-moves : goal.remember-requires-clause-moves
 remember-requires-clause-moves c =
     let diagram = c.args.turn.checked.now.diagram in
-    delay_move_is diagram (attributes_of diagram) c.args.program.now c.args.program.now c.args.turn.place c.args.turn.block.now c.requires.turn.shown.block_is c.args.program.now.places c.period-period.result c.control_of-control.result c.args.length c.args.initial.now c.args.reset c.requires.kind c.period-period.ensures c.control_of-control.ensures
+    delay_move_is diagram (attributes_of diagram) c.args.program.now c.args.program.now c.args.turn.place
+    c.args.turn.block.now c.requires.turn.shown.block_is c.args.program.now.places c.period-period.result
+    c.control_of-control.result c.args.length c.args.initial.now c.args.reset c.requires.kind
+    c.period-period.ensures c.control_of-control.ensures
 
 pub returns : goal.returns
 returns c =
     let diagram = c.args.turn.checked.now.diagram in
     let fits : FitsSigned w128 c.own_stored-first.result = record { sfits = c.own_stored-first.type_inv } in
     rw (to_z-of_z w128 c.own_stored-first.result fits)
-    (delay_made diagram (attributes_of diagram) c.args.program.now c.remember.new.program c.args.turn.place c.args.turn.block.now c.requires.turn.shown.block_is c.kept_moves.ensures.read c.args.turn.cell c.in_ok-memory.memory c.args.length c.args.initial.now c.args.reset c.own_stored-first.result
+    (delay_made diagram (attributes_of diagram) c.args.program.now c.remember.new.program c.args.turn.place
+    c.args.turn.block.now c.requires.turn.shown.block_is c.kept_moves.ensures.read c.args.turn.cell
+    c.in_ok-memory.memory c.args.length c.args.initial.now c.args.reset c.own_stored-first.result
     c.requires.kind c.requires.some c.own_stored-first.ensures c.in_ok-memory.ensures)
 
 pub remember-requires-clause-read : goal.remember-requires-clause-read
-remember-requires-clause-read c = delay_reads c.args.turn.checked.now c.args.turn.starts.now c.args.program.now.places c.args.turn.cell c.args.turn.place c.args.turn.block.now c.requires.turn c.requires.turn.rules.checked c.args.length c.args.initial.now c.args.reset c.requires.kind
+remember-requires-clause-read c = delay_reads c.args.turn.checked.now c.args.turn.starts.now
+    c.args.program.now.places c.args.turn.cell c.args.turn.place c.args.turn.block.now c.requires.turn
+    c.requires.turn.rules.checked c.args.length c.args.initial.now c.args.reset c.requires.kind
 
 pub own_stored-first-requires-clause-entry : goal.own_stored-first-requires-clause-entry
-own_stored-first-requires-clause-entry c = delay_entry c.args.turn.checked.now.diagram c.requires.turn.rules.checked c.args.turn.place.block c.args.turn.place.port c.args.turn.place.element c.args.turn.block.now c.requires.turn.shown c.args.length c.args.initial.now c.args.reset c.requires.kind
+own_stored-first-requires-clause-entry c =
+    delay_entry c.args.turn.checked.now.diagram c.requires.turn.rules.checked c.args.turn.place.block
+    c.args.turn.place.port c.args.turn.place.element c.args.turn.block.now c.requires.turn.shown c.args.length
+    c.args.initial.now c.args.reset c.requires.kind
 
 pub control_of-control-requires : goal.control_of-control-requires
 control_of-control-requires c = c.requires.turn

@@ -19,4 +19,7 @@ returns c =
     (constant_always diagram (attributes_of diagram) c.args.turn.place c.args.turn.block.now c.requires.turn.shown.block_is c.args.value.now c.own_stored-value.result c.requires.kind stores))
 
 pub own_stored-value-requires-clause-entry : goal.own_stored-value-requires-clause-entry
-own_stored-value-requires-clause-entry c = constant_entry c.args.turn.checked.now.diagram c.requires.turn.rules.checked c.args.turn.place.block c.args.turn.place.port c.args.turn.place.element c.args.turn.block.now c.requires.turn.shown c.args.value.now c.requires.kind
+own_stored-value-requires-clause-entry c =
+    constant_entry c.args.turn.checked.now.diagram c.requires.turn.rules.checked c.args.turn.place.block
+    c.args.turn.place.port c.args.turn.place.element c.args.turn.block.now c.requires.turn.shown
+    c.args.value.now c.requires.kind

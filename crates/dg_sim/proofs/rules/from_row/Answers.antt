@@ -11,7 +11,9 @@ use Rattle.dg_sim.proofs.rules.from_row.Goals as goal
 pub find_root-column-requires : goal.find_root-column-requires
 find_root-column-requires c =
     let diagram = c.args.turn.checked.now.diagram in
-    let there = input_there diagram c.args.turn.place c.args.turn.block.now c.requires.turn.rules.checked.wired c.root_elements_are_listed.ensures.inputs c.requires.turn.shown c.args.number c.requires.kind.0 c.requires.kind.1 in
+    let there = input_there diagram c.args.turn.place c.args.turn.block.now c.requires.turn.rules.checked.wired
+    c.root_elements_are_listed.ensures.inputs c.requires.turn.shown c.args.number c.requires.kind.0
+    c.requires.kind.1 in
     record {
       sorted = subst AreSorted (sym c.requires.roots) (roots_sorted root_input (λ (block : ℕ). (attributes_of diagram).width_at block 1) diagram (attributes_of diagram));
       there = (there.0, ap (λ (xs : List Root). slice_get xs there.0) c.requires.roots ∙ there.1);
@@ -24,5 +26,8 @@ returns c =
     record {
       grows = grows_same c.args.program.now;
       memories = λ are. are;
-      made = input_rule diagram c.args.program.now c.args.turn.cell c.args.turn.place c.args.turn.block.now c.requires.turn.shown.block_is c.requires.turn.rules.checked.wired c.root_elements_are_listed.ensures.inputs c.args.number c.requires.kind.0 c.find_root-column.result c.requires.kind.1 there;
+      made = input_rule diagram c.args.program.now c.args.turn.cell c.args.turn.place c.args.turn.block.now
+          c.requires.turn.shown.block_is c.requires.turn.rules.checked.wired
+          c.root_elements_are_listed.ensures.inputs c.args.number c.requires.kind.0 c.find_root-column.result
+          c.requires.kind.1 there;
     }

@@ -54,7 +54,9 @@ pub returns-in-Ground : goal.returns-in-Ground
 returns-in-Ground c = record {
   made =
       let diagram = c.args.turn.checked.now.diagram in
-      fixed_made diagram (attributes_of diagram) c.args.program.now c.args.turn.cell c.args.turn.place _ (ground_always diagram (attributes_of diagram) c.args.turn.place c.args.turn.block.now c.requires.turn.shown.block_is c.in-Ground.is);
+      fixed_made diagram (attributes_of diagram) c.args.program.now c.args.turn.cell c.args.turn.place _
+      (ground_always diagram (attributes_of diagram) c.args.turn.place c.args.turn.block.now
+      c.requires.turn.shown.block_is c.in-Ground.is);
   cursors = c.requires.cursors;
 }
 
@@ -89,7 +91,8 @@ pub delay_rule-requires : goal.delay_rule-requires
 delay_rule-requires c = record {
   turn = c.requires.turn;
   kind = c.in-Delay.is ∙ ap (λ (initial : List Decimal). Delay c.in-Delay.length initial c.in-Delay.reset) (sym c.as_slice-in-Delay.ensures);
-  some = delay_some c.args.turn.checked.now.diagram c.requires.turn.rules.checked.wired c.args.turn.place.block c.args.turn.block.now c.requires.turn.shown.block_is c.in-Delay.length _ c.in-Delay.reset c.in-Delay.is;
+  some = delay_some c.args.turn.checked.now.diagram c.requires.turn.rules.checked.wired c.args.turn.place.block
+      c.args.turn.block.now c.requires.turn.shown.block_is c.in-Delay.length _ c.in-Delay.reset c.in-Delay.is;
 }
 
 pub returns-in-Delay : goal.returns-in-Delay

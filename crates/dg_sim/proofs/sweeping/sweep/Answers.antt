@@ -19,7 +19,8 @@ give-requires-clause-can c =
     let here = ap (λ (cells : List Cell). slice_get cells k) (sym same) ∙ slice_get-get_or c.as_slice-cell-items.result.now k _ c.loop-k-test.true in
     let below : k < length c.args.program.now.places = subst (λ (n : ℕ). k < n) c.requires.program.size (rw same at c.loop-k-test.true) in
     let place = get_some c.args.program.now.places k below in
-    can_give c.args.checked.now c.args.program.now c.args.t c.args.pasts.now c.args.prepared.now c.args.numbers.now c.args.row.now (record { checked = c.keeps_rules.ensures.checked; ordered = c.keeps_rules.ensures.ordered })
+    can_give c.args.checked.now c.args.program.now c.args.t c.args.pasts.now c.args.prepared.now c.args.numbers.now
+    c.args.row.now (record { checked = c.keeps_rules.ensures.checked; ordered = c.keeps_rules.ensures.ordered })
     c.requires.program c.entry_is_one.ensures c.solved_is_in_range.ensures c.entries_stay.ensures k place.0 _ c.loop-k.row at.0 at.1 at.2 place.1 here at.3 c.loop-k.invariant.swept
 
 pub give-requires-clause-ready : goal.give-requires-clause-ready
@@ -48,15 +49,22 @@ loop-k-preserved c =
           rw (r, add-one) (record {
             size = length-set row k v ∙ inv.size;
             inputs = ap length w.inputs-is ∙ w.give.auto.inputs ∙ inv.inputs;
-            swept = swept_hit c.args.checked.now c.args.program.now c.args.t c.args.pasts.now c.args.prepared.now c.args.numbers.now c.args.row.now (record { checked = c.keeps_rules.ensures.checked; ordered = c.keeps_rules.ensures.ordered })
-                c.requires.program c.entry_is_one.ensures c.solved_is_in_range.ensures c.entries_stay.ensures k place.0 _ row v place.1 here inside (sym c.hits.ensures ∙ w.if-hits.true) inv.swept w.give.ensures;
+            swept = swept_hit c.args.checked.now c.args.program.now c.args.t c.args.pasts.now c.args.prepared.now
+                c.args.numbers.now c.args.row.now
+                (record { checked = c.keeps_rules.ensures.checked; ordered = c.keeps_rules.ensures.ordered })
+                c.requires.program c.entry_is_one.ensures c.solved_is_in_range.ensures c.entries_stay.ensures k
+                place.0 _ row v place.1 here inside
+                (sym c.hits.ensures ∙ w.if-hits.true) inv.swept w.give.ensures;
             later = λ j above. let apart : j ≡ k → ⊥ = λ e. absurd (omega (arith, e, above)) in get_or-set_other row k j v (pos 0) apart ∙ inv.later j (omega (arith, above));
           })
       | else-hits w ↦ rw (w.row-is, add-one) (record {
         size = inv.size;
         inputs = ap length w.inputs-is ∙ inv.inputs;
-        swept = swept_miss c.args.checked.now c.args.program.now c.args.t c.args.pasts.now c.args.prepared.now c.args.numbers.now c.args.row.now (record { checked = c.keeps_rules.ensures.checked; ordered = c.keeps_rules.ensures.ordered })
-            c.requires.program c.entry_is_one.ensures c.solved_is_in_range.ensures c.entries_stay.ensures k place.0 _ row place.1 here (sym c.hits.ensures ∙ w.if-hits.false) (inv.later k (omega arith)) inv.swept;
+        swept = swept_miss c.args.checked.now c.args.program.now c.args.t c.args.pasts.now c.args.prepared.now
+            c.args.numbers.now c.args.row.now
+            (record { checked = c.keeps_rules.ensures.checked; ordered = c.keeps_rules.ensures.ordered })
+            c.requires.program c.entry_is_one.ensures c.solved_is_in_range.ensures c.entries_stay.ensures k place.0
+            _ row place.1 here (sym c.hits.ensures ∙ w.if-hits.false) (inv.later k (omega arith)) inv.swept;
         later = λ j above. inv.later j (omega (arith, above));
       })
     ]

@@ -10,7 +10,12 @@ use Rattle.dg_sim.proofs.values.own_stored.Goals as goal
 pub stored_entry-requires-clause-kind : goal.stored_entry-requires-clause-kind
 stored_entry-requires-clause-kind c =
     let checked = c.args.turn.checked.now in
-    let valid = c.operations_prepare.ensures.types checked.diagram checked.order c.args.turn.place.block c.args.turn.block.now (record { checked = c.keeps_rules.ensures.checked; ordered = c.keeps_rules.ensures.ordered }) c.requires.there in
+    let valid = c.operations_prepare.ensures.types checked.diagram checked.order c.args.turn.place.block
+    c.args.turn.block.now (record {
+      checked = c.keeps_rules.ensures.checked;
+      ordered =
+          c.keeps_rules.ensures.ordered;
+    }) c.requires.there in
     subst IsType (sym (c.result.ensures 1)) valid.0
 
 pub stored_entry-requires-clause-entry : goal.stored_entry-requires-clause-entry
@@ -22,4 +27,6 @@ result-requires c = slice_get_within c.args.turn.checked.now.diagram.blocks c.ar
 pub returns : goal.returns
 returns c =
     let fits : FitsSigned w128 c.stored_entry.result = record { sfits = c.stored_entry.type_inv } in
-    rw (to_z-of_z w128 c.stored_entry.result fits) (subst (λ (kind : FxType). StoresEntry c.args.list.now c.args.turn.place.element kind c.stored_entry.result) (c.result.ensures 1) c.stored_entry.ensures)
+    rw (to_z-of_z w128 c.stored_entry.result fits)
+    (subst (λ (kind : FxType). StoresEntry c.args.list.now c.args.turn.place.element kind c.stored_entry.result)
+    (c.result.ensures 1) c.stored_entry.ensures)

@@ -15,7 +15,8 @@ stored_entry-coefficient-requires-clause-kind c =
 pub stored_entry-coefficient-requires-clause-entry : goal.stored_entry-coefficient-requires-clause-entry
 stored_entry-coefficient-requires-clause-entry c =
     subst (λ (list : List Decimal). HasEntry list c.args.turn.place.element) (sym c.as_slice.ensures)
-    (gain_entry c.args.turn.checked.now.diagram c.requires.rules.checked c.args.turn.place.block c.args.turn.place.port c.args.turn.place.element c.args.turn.block.now c.requires.shown _ _ c.in-Gain.is)
+    (gain_entry c.args.turn.checked.now.diagram c.requires.rules.checked c.args.turn.place.block
+    c.args.turn.place.port c.args.turn.place.element c.args.turn.block.now c.requires.shown _ _ c.in-Gain.is)
 
 pub stored_entry-threshold-requires-clause-kind : goal.stored_entry-threshold-requires-clause-kind
 stored_entry-threshold-requires-clause-kind c =
@@ -26,7 +27,8 @@ stored_entry-threshold-requires-clause-kind c =
 pub stored_entry-threshold-requires-clause-entry : goal.stored_entry-threshold-requires-clause-entry
 stored_entry-threshold-requires-clause-entry c =
     subst (λ (list : List Decimal). HasEntry list c.args.turn.place.element) (sym c.as_slice-in-Switch.ensures)
-    (switch_entry c.args.turn.checked.now.diagram c.requires.rules.checked c.args.turn.place.block c.args.turn.place.port c.args.turn.place.element c.args.turn.block.now c.requires.shown _ _ c.in-Switch.is)
+    (switch_entry c.args.turn.checked.now.diagram c.requires.rules.checked c.args.turn.place.block
+    c.args.turn.place.port c.args.turn.place.element c.args.turn.block.now c.requires.shown _ _ c.in-Switch.is)
 
 pub param-param-requires : goal.param-param-requires
 param-param-requires c = slice_get_within c.args.turn.checked.now.diagram.blocks c.args.turn.place.block c.args.turn.block.now c.requires.shown.block_is

@@ -17,7 +17,10 @@ loop-i-preserved c =
       inv.0 ++ new.0 ∷ [],
       length-append inv.0 (new.0 ∷ []) ∙ omega (arith, inv.1),
       new.1 ∙ ap (λ (xs : List ℕ). xs ++ new.0 ∷ []) inv.2 ∙ append_assoc c.args.args.now inv.0 (new.0 ∷ []),
-      read_more diagram (attributes_of diagram) c.args.places.now place.block place.element c.args.turn.cell inv.0 new.0 i inv.1 new.2 (subst (λ (port : ℕ). Reads diagram (attributes_of diagram) c.args.places.now place.block port place.element new.0) (omega arith) new.3) inv.3,
+      read_more diagram (attributes_of diagram) c.args.places.now place.block place.element c.args.turn.cell inv.0
+          new.0 i inv.1 new.2 (subst (λ (port : ℕ). Reads diagram
+          (attributes_of diagram) c.args.places.now place.block port place.element new.0) (omega arith) new.3)
+          inv.3,
       new.4 ∙ ap₂ (λ (xs : List FxType) (kind : FxType). xs ++ kind ∷ []) inv.4 c.type_of_input-kind.ensures
           ∙ append_assoc c.args.types.now _ (type_into diagram (attributes_of diagram) place.block (i + 1) ∷ [])
           ∙ ap (λ (xs : List FxType). c.args.types.now ++ xs) (sym (map_last (type_into diagram (attributes_of diagram) place.block) i)),

@@ -16,13 +16,16 @@ index-step-requires c =
 
 pub loop-at-smaller : goal.loop-at-smaller
 loop-at-smaller c =
-    walk_lower c.args.rows.now c.args.first c.loop-at.at c.index-step.result.now c.steps_back.new.steps.items c.loop-at.cycle c.loop-at.invariant.met c.loop-at.invariant.walked c.loop-at-test.true c.index-step.ensures
+    walk_lower c.args.rows.now c.args.first c.loop-at.at c.index-step.result.now c.steps_back.new.steps.items
+    c.loop-at.cycle c.loop-at.invariant.met c.loop-at.invariant.walked c.loop-at-test.true c.index-step.ensures
 
 pub loop-at-preserved : goal.loop-at-preserved
 loop-at-preserved c = record {
   met = c.loop-at.invariant.met;
   walked = rw c.in_ok-push-2.ensures.appended
-      (walk_goes c.args.rows.now c.args.first c.loop-at.at c.index-step.result.now c.steps_back.new.steps.items c.loop-at.cycle c.loop-at.invariant.met c.loop-at.invariant.walked c.loop-at-test.true c.index-step.ensures);
+      (walk_goes c.args.rows.now c.args.first c.loop-at.at c.index-step.result.now c.steps_back.new.steps.items
+      c.loop-at.cycle c.loop-at.invariant.met c.loop-at.invariant.walked c.loop-at-test.true
+      c.index-step.ensures);
 }
 
 pub returns : goal.returns

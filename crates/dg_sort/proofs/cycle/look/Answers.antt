@@ -11,7 +11,8 @@ pub loop-source-init : goal.loop-source-init
 loop-source-init c =
     let inside = step_inside c.args.rows.now c.args.first c.args.at c.index.result.now c.args.steps.now.items c.args.is_met.now.items c.requires.steps c.requires.there c.index.ensures in
     record {
-      looking = looking_begins c.args.rows.now c.args.first c.args.at c.index.result.now c.args.steps.now.items c.args.is_met.now.items c.requires.steps c.requires.there c.index.ensures c.requires.closed;
+      looking = looking_begins c.args.rows.now c.args.first c.args.at c.index.result.now c.args.steps.now.items
+          c.args.is_met.now.items c.requires.steps c.requires.there c.index.ensures c.requires.closed;
       row = row_is c.args.rows.now c.index.result.now.block c.as_slice-row.result.now _ inside c.as_slice-row.ensures c.index-rows-block.is;
     }
 
@@ -22,13 +23,17 @@ returns-then-source-first-clause-there c =
 pub returns-then-source-first-clause-found : goal.returns-then-source-first-clause-found
 returns-then-source-first-clause-found c = λ found.
     let there = source_at c.as_slice-row.result.now (row_at c.args.rows.now c.index.result.now.block) c.loop-source.source-index c.loop-source.invariant.row c.loop-source-test.true in
-    looking_finds c.args.rows.now c.args.first c.args.at c.index.result.now.block c.loop-source.source-index (get_or c.as_slice-row.result.now c.loop-source.source-index 0) c.loop-source.steps.items c.loop-source.is_met.items
+    looking_finds c.args.rows.now c.args.first c.args.at c.index.result.now.block c.loop-source.source-index
+    (get_or c.as_slice-row.result.now c.loop-source.source-index 0) c.loop-source.steps.items
+    c.loop-source.is_met.items
     c.loop-source.invariant.looking there c.if-source-first.true
 
 pub index-requires-in-loop-source : goal.index-requires-in-loop-source
 index-requires-in-loop-source c =
     let there = source_at c.as_slice-row.result.now (row_at c.args.rows.now c.index.result.now.block) c.loop-source.source-index c.loop-source.invariant.row c.loop-source-test.true in
-    let inside = looking_there c.args.rows.now c.args.first c.args.at c.index.result.now.block c.loop-source.source-index (get_or c.as_slice-row.result.now c.loop-source.source-index 0) c.loop-source.steps.items c.loop-source.is_met.items
+    let inside = looking_there c.args.rows.now c.args.first c.args.at c.index.result.now.block
+    c.loop-source.source-index (get_or c.as_slice-row.result.now c.loop-source.source-index 0)
+    c.loop-source.steps.items c.loop-source.is_met.items
     c.loop-source.invariant.looking c.requires.known there in
     let long = c.loop-source.is_met.ok.0 in
     omega (arith, inside, long)
@@ -36,7 +41,9 @@ index-requires-in-loop-source c =
 pub index_mut-requires : goal.index_mut-requires
 index_mut-requires c =
     let there = source_at c.as_slice-row.result.now (row_at c.args.rows.now c.index.result.now.block) c.loop-source.source-index c.loop-source.invariant.row c.loop-source-test.true in
-    let inside = looking_there c.args.rows.now c.args.first c.args.at c.index.result.now.block c.loop-source.source-index (get_or c.as_slice-row.result.now c.loop-source.source-index 0) c.loop-source.steps.items c.loop-source.is_met.items
+    let inside = looking_there c.args.rows.now c.args.first c.args.at c.index.result.now.block
+    c.loop-source.source-index (get_or c.as_slice-row.result.now c.loop-source.source-index 0)
+    c.loop-source.steps.items c.loop-source.is_met.items
     c.loop-source.invariant.looking c.requires.known there in
     let long = c.loop-source.is_met.ok.0 in
     omega (arith, inside, long)
@@ -45,14 +52,18 @@ pub loop-source-preserved : goal.loop-source-preserved
 loop-source-preserved c =
     let source = get_or c.as_slice-row.result.now c.loop-source.source-index 0 in
     let there = source_at c.as_slice-row.result.now (row_at c.args.rows.now c.index.result.now.block) c.loop-source.source-index c.loop-source.invariant.row c.loop-source-test.true in
-    let inside = looking_there c.args.rows.now c.args.first c.args.at c.index.result.now.block c.loop-source.source-index source c.loop-source.steps.items c.loop-source.is_met.items c.loop-source.invariant.looking c.requires.known there in
+    let inside = looking_there c.args.rows.now c.args.first c.args.at c.index.result.now.block
+    c.loop-source.source-index source c.loop-source.steps.items c.loop-source.is_met.items
+    c.loop-source.invariant.looking c.requires.known there in
     elim c.if-not-index.branch [
       | then-not-index+in_ok-push w ↦
           let fresh : c.index-in-loop-source.result.now ≡ false = w.if-not-index.true in
           let unmet = met_at c.loop-source.is_met.items source c.index-in-loop-source.result.now false inside c.index-in-loop-source.ensures fresh in
           record {
             looking = rw (w.steps-is, w.is_met-is, w.in_ok-push.ensures.items)
-                (looking_meets c.args.rows.now c.args.first c.args.at c.index.result.now.block c.loop-source.source-index source c.loop-source.steps.items c.loop-source.is_met.items c.loop-source.invariant.looking there c.if-source-first.false unmet);
+                (looking_meets c.args.rows.now c.args.first c.args.at c.index.result.now.block
+                c.loop-source.source-index source c.loop-source.steps.items c.loop-source.is_met.items
+                c.loop-source.invariant.looking there c.if-source-first.false unmet);
             row = c.loop-source.invariant.row;
           }
       | else-not-index w ↦
@@ -60,7 +71,9 @@ loop-source-preserved c =
           let met = met_at c.loop-source.is_met.items source c.index-in-loop-source.result.now true inside c.index-in-loop-source.ensures known in
           record {
             looking = rw (w.steps-is, w.is_met-is)
-                (looking_passes c.args.rows.now c.args.first c.args.at c.index.result.now.block c.loop-source.source-index source c.loop-source.steps.items c.loop-source.is_met.items c.loop-source.invariant.looking there c.if-source-first.false met);
+                (looking_passes c.args.rows.now c.args.first c.args.at c.index.result.now.block
+                c.loop-source.source-index source c.loop-source.steps.items c.loop-source.is_met.items
+                c.loop-source.invariant.looking there c.if-source-first.false met);
             row = c.loop-source.invariant.row;
           }
     ]

@@ -15,6 +15,9 @@ returns-in-None-clause-kept c =
 
 pub returns-clause-broken : goal.returns-clause-broken
 returns-clause-broken c =
-    let found = found_some c.in_ok-rows.rows.items c.as_slice.result.now c.in_ok-found.found.order.items c.in_ok-found.found.first c.in-Some.first c.as_slice.ensures.value c.in-Some.is c.in_ok-found.ensures in
-    let read : IsReadCycle c.in_ok-rows.rows.items c.in-Some.first c.in_ok-blocks-in-Some.blocks = subst (λ (rs : List (List ℕ)). IsReadCycle rs c.in-Some.first c.in_ok-blocks-in-Some.blocks) c.as_slice-in-Some.ensures.value c.in_ok-blocks-in-Some.ensures in
+    let found = found_some c.in_ok-rows.rows.items c.as_slice.result.now c.in_ok-found.found.order.items
+    c.in_ok-found.found.first c.in-Some.first c.as_slice.ensures.value c.in-Some.is c.in_ok-found.ensures in
+    let read : IsReadCycle c.in_ok-rows.rows.items c.in-Some.first c.in_ok-blocks-in-Some.blocks =
+    subst (λ (rs : List (List ℕ)). IsReadCycle rs c.in-Some.first c.in_ok-blocks-in-Some.blocks)
+    c.as_slice-in-Some.ensures.value c.in_ok-blocks-in-Some.ensures in
     loop_breaks c.args.diagram.now c.in_ok-rows.rows.items c.in-Some.first c.in_ok-blocks-in-Some.blocks c.in_ok-fault-in-Some.fault c.in_ok-rows.ensures found read c.in_ok-fault-in-Some.ensures

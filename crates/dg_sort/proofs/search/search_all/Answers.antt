@@ -40,7 +40,9 @@ loop-root-preserved c =
 pub returns : goal.returns
 returns c =
     let end = c.loop-root-test.false in
-    found c.args.rows.now (seen c.loop-root.search) c.requires.known c.loop-root.invariant.state c.loop-root.invariant.free (λ block below at. c.loop-root.invariant.met block (omega (arith, below, end)) at)
+    found c.args.rows.now (seen c.loop-root.search) c.requires.known c.loop-root.invariant.state
+    c.loop-root.invariant.free
+    (λ block below at. c.loop-root.invariant.met block (omega (arith, below, end)) at)
 
 pub search_from-requires-clause-unmet : goal.search_from-requires-clause-unmet
 search_from-requires-clause-unmet c =

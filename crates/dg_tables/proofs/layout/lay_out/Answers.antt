@@ -16,7 +16,9 @@ put_block-requires c =
     let diagram : Diagram = checked.diagram in
     let index : ℕ = c.loop-block.block-index in
     let block : ℕ = get_or c.order-block-items.result.now index 0 in
-    let turn : slice_get checked.order index ≡ Some block = ap (λ (xs : List ℕ). slice_get xs index) (sym c.order-block-items.ensures) ∙ slice_get-get_or c.order-block-items.result.now index 0 c.loop-block-test.true in
+    let turn : slice_get checked.order index ≡ Some block =
+    ap (λ (xs : List ℕ). slice_get xs index) (sym c.order-block-items.ensures)
+    ∙ slice_get-get_or c.order-block-items.result.now index 0 c.loop-block-test.true in
     let list : c.as_slice.result.now ≡ diagram.blocks = c.as_slice.ensures ∙ ap (λ (d : Diagram). d.blocks) c.diagram.ensures in
     let there : block < length diagram.blocks = held (λ (place : ℕ). place < length diagram.blocks) checked.order index block c.keeps_rules.ensures.ordered.there turn in
     let within : block < length c.as_slice.result.now = subst (λ (bs : List Block). block < length bs) (sym list) there in
@@ -37,12 +39,18 @@ loop-block-preserved c =
     let block : ℕ = get_or c.order-block-items.result.now index 0 in
     let one : Block = c.index-as_slice-block.result in
     let new = c.in_ok-put_block.ensures in
-    let turn : slice_get checked.order index ≡ Some block = ap (λ (xs : List ℕ). slice_get xs index) (sym c.order-block-items.ensures) ∙ slice_get-get_or c.order-block-items.result.now index 0 c.loop-block-test.true in
+    let turn : slice_get checked.order index ≡ Some block =
+    ap (λ (xs : List ℕ). slice_get xs index) (sym c.order-block-items.ensures)
+    ∙ slice_get-get_or c.order-block-items.result.now index 0 c.loop-block-test.true in
     let list : c.as_slice.result.now ≡ diagram.blocks = c.as_slice.ensures ∙ ap (λ (d : Diagram). d.blocks) c.diagram.ensures in
     let there : block < length diagram.blocks = held (λ (place : ℕ). place < length diagram.blocks) checked.order index block c.keeps_rules.ensures.ordered.there turn in
     let within : block < length c.as_slice.result.now = subst (λ (bs : List Block). block < length bs) (sym list) there in
-    let block_is : slice_get diagram.blocks block ≡ Some one = ap (λ (bs : List Block). slice_get bs block) (sym list) ∙ slice_get-get_or c.as_slice.result.now block _ within ∙ ap (λ (b : Block). Some b) (sym c.index-as_slice-block.is) in
-    laid_more checked c.keeps_rules.ensures.ordered index block one c.loop-block.starts c.put_block.new.starts c.loop-block.places c.put_block.new.places turn block_is new.put c.loop-block.invariant new.ports new.lines
+    let block_is : slice_get diagram.blocks block ≡ Some one =
+    ap (λ (bs : List Block). slice_get bs block) (sym list)
+    ∙ slice_get-get_or c.as_slice.result.now block _ within
+    ∙ ap (λ (b : Block). Some b) (sym c.index-as_slice-block.is) in
+    laid_more checked c.keeps_rules.ensures.ordered index block one c.loop-block.starts c.put_block.new.starts
+    c.loop-block.places c.put_block.new.places turn block_is new.put c.loop-block.invariant new.ports new.lines
 
 pub returns-clause-finds : goal.returns-clause-finds
 returns-clause-finds c =

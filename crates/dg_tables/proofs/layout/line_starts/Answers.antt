@@ -23,7 +23,10 @@ put_line-requires c =
     let place : ℕ = c.loop-place.place in
     let edges : c.as_slice-edge-items.result.now ≡ diagram.edges = c.as_slice-edge-items.ensures ∙ ap (λ (d : Diagram). d.edges) c.diagram-2.ensures in
     let edge : Edge = get_or c.as_slice-edge-items.result.now place (record { from = 0; from_port = 0; to = 0; to_port = 0 }) in
-    let at : slice_get diagram.edges place ≡ Some edge = ap (λ (xs : List Edge). slice_get xs place) (sym edges) ∙ slice_get-get_or c.as_slice-edge-items.result.now place (record { from = 0; from_port = 0; to = 0; to_port = 0 }) c.loop-place-test.true in
+    let at : slice_get diagram.edges place ≡ Some edge =
+    ap (λ (xs : List Edge). slice_get xs place) (sym edges)
+    ∙ slice_get-get_or c.as_slice-edge-items.result.now place
+    (record { from = 0; from_port = 0; to = 0; to_port = 0 }) c.loop-place-test.true in
     let there = target diagram c.keeps_rules.ensures.checked.wired place edge at in
     let inside = slice_get_within diagram.blocks edge.to there.0 there.1 in
     let size = c.loop-place.invariant.size in

@@ -17,7 +17,10 @@ loop-i-preserved c =
     record {
       lines = new.lines ∙ inv.lines;
       ports = new.ports ∙ inv.ports;
-      put = put_more diagram (attributes_of diagram) c.args.block one c.requires.block c.loop-i.i c.args.starts.now.entries.items c.args.places.now c.loop-i.starts.entries.items c.put_port.new.starts.entries.items c.loop-i.places c.put_port.new.places end new.entries new.places inv.put;
+      put = put_more diagram (attributes_of diagram) c.args.block one c.requires.block c.loop-i.i
+          c.args.starts.now.entries.items c.args.places.now c.loop-i.starts.entries.items
+          c.put_port.new.starts.entries.items c.loop-i.places c.put_port.new.places end new.entries new.places
+          inv.put;
     }
 
 pub returns-clause-ports : goal.returns-clause-ports
@@ -40,4 +43,5 @@ returns-clause-put c =
     let diagram = c.args.checked.now.diagram in
     let one = c.args.one.now in
     let all : c.loop-i.i ≡ shown_ports one.kind one.outputs = omega (arith, c.loop-i-test.false, c.loop-i.auto.i-end, c.ports_shown-i-end.ensures) in
-    subst (λ (n : ℕ). ArePut diagram (attributes_of diagram) c.args.block one n c.args.starts.now.entries.items c.args.places.now c.loop-i.starts.entries.items c.loop-i.places) all c.loop-i.invariant.put
+    subst (λ (n : ℕ). ArePut diagram (attributes_of diagram) c.args.block one n c.args.starts.now.entries.items
+    c.args.places.now c.loop-i.starts.entries.items c.loop-i.places) all c.loop-i.invariant.put

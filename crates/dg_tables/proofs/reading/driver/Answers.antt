@@ -11,9 +11,12 @@ edges_are : (c : After-saturating_sub-at) → c.as_slice-edges.result.now ≡ c.
 edges_are c = c.as_slice-edges.ensures ∙ ap (λ (d : Diagram). d.edges) c.diagram.ensures
 
 -- a line into the port stands at the place that is looked at
-here : (c : After-saturating_sub-at) (k : ℕ) → k < length c.args.checked.now.diagram.edges → k ≡ slice_index_or c.args.starts.now.lines.items c.args.block 0 + c.args.port - 1 → k ≡ c.saturating_sub-at.result
+here : (c : After-saturating_sub-at) (k : ℕ) → k < length c.args.checked.now.diagram.edges
+    → k ≡ slice_index_or c.args.starts.now.lines.items c.args.block 0 + c.args.port - 1
+    → k ≡ c.saturating_sub-at.result
 here c k within is =
-    let first : c.place_of.result ≡ slice_index_or c.args.starts.now.lines.items c.args.block 0 = c.place_of.ensures ∙ ap (λ (xs : List ℕ). slice_index_or xs c.args.block 0) c.as_slice.ensures.value in
+    let first : c.place_of.result ≡ slice_index_or c.args.starts.now.lines.items c.args.block 0 =
+    c.place_of.ensures ∙ ap (λ (xs : List ℕ). slice_index_or xs c.args.block 0) c.as_slice.ensures.value in
     omega (arith, is, within, first, ap (λ (xs : List Edge). length xs) (edges_are c), c.saturating_add.ensures, c.saturating_sub-at.ensures)
 
 there : (c : After-saturating_sub-at) (default : Edge) → c.saturating_sub-at.result < length c.as_slice-edges.result.now
@@ -30,7 +33,9 @@ returns-then-at-edges c =
 pub returns-then-is_into : goal.returns-then-is_into
 returns-then-is_into c =
     let at = (goal.at.returns-then-is_into c).After-saturating_sub-at in
-    found_line c.args.checked.now.diagram c.keeps_rules.ensures.checked.wired c.args.starts.now.lines.items c.requires c.args.block c.args.port c.saturating_sub-at.result (here at) _ (there at _ (omega (arith, c.if-at-edges.false))) (sym c.is_into.ensures ∙ c.if-is_into.true)
+    found_line c.args.checked.now.diagram c.keeps_rules.ensures.checked.wired c.args.starts.now.lines.items
+    c.requires c.args.block c.args.port c.saturating_sub-at.result (here at) _
+    (there at _ (omega (arith, c.if-at-edges.false))) (sym c.is_into.ensures ∙ c.if-is_into.true)
 
 pub returns-else-is_into : goal.returns-else-is_into
 returns-else-is_into c =

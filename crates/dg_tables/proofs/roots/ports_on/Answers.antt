@@ -22,7 +22,9 @@ loop-i-preserved c =
 
 pub loop-i-init : goal.loop-i-init
 loop-i-init c = record {
-  size = ap (λ (ports : List ℕ). length ports) (c.in_ok-ports.ensures.items_if_clones_equal (λ y same. same)) ∙ length-replicate c.count_on.result 0 ∙ c.count_on.ensures ∙ counted_map (number_in (root_on c.args.side)) c.args.blocks.now;
+  size = ap (λ (ports : List ℕ). length ports) (c.in_ok-ports.ensures.items_if_clones_equal (λ y same. same))
+      ∙ length-replicate c.count_on.result 0 ∙ c.count_on.ensures
+      ∙ counted_map (number_in (root_on c.args.side)) c.args.blocks.now;
   each = λ block b number below at is. absurd (omega (arith, below));
 }
 

@@ -14,7 +14,9 @@ returns c =
     let side = c.args.side in
     let read = port_read (root_on side) diagram.blocks (numbered_on diagram c.keeps_rules.ensures.checked.wired side) c.args.ports.now c.requires.ports c.args.number c.requires.number in
     subst (λ (elements : List Root). OnOk c.put_port.result (c.put_port.new.roots ≡ c.args.roots.now ++ elements))
-    (port_roots (attributes_of diagram) (width_on diagram (attributes_of diagram) side) c.args.number _ c.width_on-width.result (position (has_number (root_on side) c.args.number) diagram.blocks) read.3 c.width_on-width.ensures)
+    (port_roots (attributes_of diagram) (width_on diagram (attributes_of diagram) side) c.args.number _
+    c.width_on-width.result
+    (position (has_number (root_on side) c.args.number) diagram.blocks) read.3 c.width_on-width.ensures)
     c.put_port.ensures
 
 pub width_on-width-requires : goal.width_on-width-requires

@@ -18,26 +18,34 @@ blocks_are : (c : After-as_slice-blocks) → c.as_slice-blocks.result.now ≡ c.
 blocks_are c = c.as_slice-blocks.ensures ∙ ap (λ (d : Diagram). d.blocks) c.diagram.ensures
 
 all_ports : (c : In_ok-ports) → length c.in_ok-ports.ports.items ≡ length (filter_map (number_in (root_on c.args.side)) c.args.checked.now.diagram.blocks)
-all_ports c = c.in_ok-ports.ensures.size ∙ ap (λ (xs : List Block). length (filter_map (number_in (root_on c.args.side)) xs)) (c.as_slice-blocks.ensures ∙ ap (λ (d : Diagram). d.blocks) c.diagram.ensures)
+all_ports c = c.in_ok-ports.ensures.size
+    ∙ ap (λ (xs : List Block). length (filter_map (number_in (root_on c.args.side)) xs))
+    (c.as_slice-blocks.ensures ∙ ap (λ (d : Diagram). d.blocks) c.diagram.ensures)
 
 pub loop-i-preserved : goal.loop-i-preserved
 loop-i-preserved c =
     let diagram = c.args.checked.now.diagram in
     let side = c.args.side in
-    let part : ℕ → List RootElement = λ number. elements_of_port (attributes_of diagram) (width_on diagram (attributes_of diagram) side) number (position (has_number (root_on side) number) diagram.blocks) in
+    let part : ℕ → List RootElement = λ number. elements_of_port (attributes_of diagram)
+    (width_on diagram (attributes_of diagram) side) number
+    (position (has_number (root_on side) number) diagram.blocks) in
     roots_more part c.loop-i.i c.put_port_on.new.roots (c.in_ok-put_port_on.ensures ∙ ap (λ (xs : List Root). xs ++ roots_of (part (c.loop-i.i + 1))) c.loop-i.invariant)
 
 pub returns : goal.returns
 returns c =
     let diagram = c.args.checked.now.diagram in
     let side = c.args.side in
-    let part : ℕ → List RootElement = λ number. elements_of_port (attributes_of diagram) (width_on diagram (attributes_of diagram) side) number (position (has_number (root_on side) number) diagram.blocks) in
+    let part : ℕ → List RootElement = λ number. elements_of_port (attributes_of diagram)
+    (width_on diagram (attributes_of diagram) side) number
+    (position (has_number (root_on side) number) diagram.blocks) in
     let last : c.loop-i.i ≡ length c.in_ok-ports.ports.items = omega arith in
     c.loop-i.invariant ∙ ap (λ (n : ℕ). roots_of (flat_map part (numbers_from 1 n))) (last ∙ all_ports (goal.at.returns c).In_ok-ports)
 
 pub ports_on-requires-clause-ports : goal.ports_on-requires-clause-ports
 ports_on-requires-clause-ports c =
-    subst (λ (list : List Block). AreNumbered (filter_map (number_in (root_on c.args.side)) list)) (sym (blocks_are c)) (numbered_on c.args.checked.now.diagram c.keeps_rules.ensures.checked.wired c.args.side)
+    subst (λ (list : List Block). AreNumbered (filter_map (number_in (root_on c.args.side)) list))
+    (sym (blocks_are c))
+    (numbered_on c.args.checked.now.diagram c.keeps_rules.ensures.checked.wired c.args.side)
 
 pub put_port_on-requires-clause-number : goal.put_port_on-requires-clause-number
 put_port_on-requires-clause-number c = (omega arith, omega (arith, all_ports (goal.at.put_port_on-requires-clause-number c).In_ok-ports))

@@ -8,4 +8,7 @@ use Rattle.dg_tables.specs.inner.Ports.{root_on, width_on}
 use Rattle.dg_tables.proofs.roots.roots_on.Given as goal
 
 abbrev pub invariant-loop-i : goal.invariant-loop-i
-invariant-loop-i l = l.roots ≡ roots_of (flat_map (λ number. elements_of_port (attributes_of l.checked.diagram) (width_on l.checked.diagram (attributes_of l.checked.diagram) l.side) number (position (has_number (root_on l.side) number) l.checked.diagram.blocks)) (numbers_from 1 l.i))
+invariant-loop-i l = l.roots ≡ roots_of
+    (flat_map (λ number. elements_of_port (attributes_of l.checked.diagram)
+    (width_on l.checked.diagram (attributes_of l.checked.diagram) l.side) number
+    (position (has_number (root_on l.side) number) l.checked.diagram.blocks)) (numbers_from 1 l.i))

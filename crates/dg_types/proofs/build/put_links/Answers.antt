@@ -21,12 +21,14 @@ source_of-requires-clause-fits c = c.requires.can.ports c.loop-edge.edge-index _
 
 pub push_at-requires : goal.push_at-requires
 push_at-requires c =
-    let there = c.requires.can.ends c.loop-edge.edge-index (get_or c.args.edges.now c.loop-edge.edge-index none) (slice_get-get_or c.args.edges.now c.loop-edge.edge-index none c.loop-edge-test.true) in
+    let there = c.requires.can.ends c.loop-edge.edge-index (get_or c.args.edges.now c.loop-edge.edge-index none)
+    (slice_get-get_or c.args.edges.now c.loop-edge.edge-index none c.loop-edge-test.true) in
     omega (arith, there.1, c.loop-edge.invariant.sources.size)
 
 pub push_at-requires-in-loop-edge : goal.push_at-requires-in-loop-edge
 push_at-requires-in-loop-edge c =
-    let there = c.requires.can.ends c.loop-edge.edge-index (get_or c.args.edges.now c.loop-edge.edge-index none) (slice_get-get_or c.args.edges.now c.loop-edge.edge-index none c.loop-edge-test.true) in
+    let there = c.requires.can.ends c.loop-edge.edge-index (get_or c.args.edges.now c.loop-edge.edge-index none)
+    (slice_get-get_or c.args.edges.now c.loop-edge.edge-index none c.loop-edge-test.true) in
     omega (arith, there.0, c.loop-edge.invariant.readers.size)
 
 pub push_at-requires-in-loop-place : goal.push_at-requires-in-loop-place
@@ -46,7 +48,9 @@ loop-edge-preserved c =
     let there = c.requires.can.ends i (get_or edges i none) (slice_get-get_or edges i none c.loop-edge-test.true) in
     let more = take_more edges i none c.loop-edge-test.true in
     record {
-      sources = rw (more, c.in_ok-push_at.ensures, c.source_of.ensures) (gathered_more _ (source_of blocks) (take i edges) c.loop-edge.sources.items (get_or edges i none) there.1 c.loop-edge.invariant.sources);
+      sources = rw (more, c.in_ok-push_at.ensures, c.source_of.ensures)
+          (gathered_more _ (source_of blocks) (take i edges) c.loop-edge.sources.items
+          (get_or edges i none) there.1 c.loop-edge.invariant.sources);
       readers = rw (more, c.in_ok-push_at-2.ensures) (known_more _ 0 (take i edges) c.loop-edge.readers.items (get_or edges i none) there.0 there.1 c.loop-edge.invariant.readers);
     }
 

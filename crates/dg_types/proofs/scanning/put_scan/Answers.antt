@@ -50,7 +50,9 @@ all_first-requires c = λ k block at.
 held_long : (c : After-as_slice) → length c.as_slice.result.now ≡ length c.as_slice-blocks.result.now
 held_long c =
     let blocks = c.as_slice-blocks.result.now in
-    ap length (c.as_slice.ensures.value ∙ c.in_ok-held.ensures.values) ∙ length_after (next_held (all_forms c.args.round.now.blocks.now) c.args.round.now.sources) (length blocks) c.in_ok-first.first.items
+    ap length (c.as_slice.ensures.value ∙ c.in_ok-held.ensures.values)
+    ∙ length_after (next_held (all_forms c.args.round.now.blocks.now) c.args.round.now.sources)
+    (length blocks) c.in_ok-first.first.items
     ∙ ap length c.in_ok-first.ensures ∙ length_first blocks
 
 widths_long : (c : After-as_slice-4) → length c.as_slice.result.now ≡ length c.as_slice-blocks.result.now → length c.put_rows.new.rows ≡ length c.args.diagram.now.blocks
@@ -94,9 +96,14 @@ returns c =
     let held = c.in_ok-held.held.items in
     let later = c.in_ok-later.later.items in
     let is_held : held ≡ after_rounds next (length diagram.blocks) (all_first diagram.blocks) =
-    c.in_ok-held.ensures.values ∙ ap (after_rounds next (length c.as_slice-blocks.result.now)) c.in_ok-first.ensures ∙ ap (λ (bs : List Block). after_rounds next (length bs) (all_first bs)) c.as_slice-blocks.ensures in
-    let widths : c.put_rows.new.rows ≡ shown diagram.blocks held = c.in_ok-put_rows.ensures ∙ ap (λ (bs : List Block). shown bs c.as_slice.result.now) c.as_slice-blocks.ensures ∙ ap (shown diagram.blocks) c.as_slice.ensures.value in
-    let again : c.put_rows-2.new.rows ≡ shown diagram.blocks later = c.in_ok-put_rows-2.ensures ∙ ap (λ (bs : List Block). shown bs c.as_slice-2.result.now) c.as_slice-blocks.ensures ∙ ap (shown diagram.blocks) c.as_slice-2.ensures.value in
+    c.in_ok-held.ensures.values ∙ ap (after_rounds next (length c.as_slice-blocks.result.now)) c.in_ok-first.ensures
+    ∙ ap (λ (bs : List Block). after_rounds next (length bs) (all_first bs)) c.as_slice-blocks.ensures in
+    let widths : c.put_rows.new.rows ≡ shown diagram.blocks held =
+    c.in_ok-put_rows.ensures ∙ ap (λ (bs : List Block). shown bs c.as_slice.result.now)
+    c.as_slice-blocks.ensures ∙ ap (shown diagram.blocks) c.as_slice.ensures.value in
+    let again : c.put_rows-2.new.rows ≡ shown diagram.blocks later =
+    c.in_ok-put_rows-2.ensures ∙ ap (λ (bs : List Block). shown bs c.as_slice-2.result.now)
+    c.as_slice-blocks.ensures ∙ ap (shown diagram.blocks) c.as_slice-2.ensures.value in
     is_scan diagram (record { widths = c.put_rows.new.rows; again = c.put_rows-2.new.rows; inputs = c.in_ok-inputs.inputs }) forms sources held later c.requires.wired c.requires.mirrors
     is_held c.in_ok-later.ensures.values widths again (rw (c.as_slice-3.ensures, c.as_slice-4.ensures) at c.in_ok-inputs.ensures)
 

@@ -18,7 +18,9 @@ abbrev breaks_part : Part → Diagram → RuleFault → Type 0
 breaks_part part diagram = BreaksAt diagram Rule.Type (keeps_part part diagram (types_of diagram)) (λ place block. Word (word_of part))
 
 -- what refuses by one part refuses by the rule
-refused_by : (part : Part) (diagram : Diagram) (fault : CheckFault) → ((f : RuleFault) → breaks_part part diagram f → BreaksType diagram f) → IsRefusal (breaks_part part diagram) fault → IsRefusal (BreaksType diagram) fault
+refused_by : (part : Part) (diagram : Diagram) (fault : CheckFault)
+    → ((f : RuleFault) → breaks_part part diagram f → BreaksType diagram f)
+    → IsRefusal (breaks_part part diagram) fault → IsRefusal (BreaksType diagram) fault
 refused_by part diagram (Broken fault) all is = all fault is
 refused_by part diagram OutOfMemory all is = is
 
@@ -31,7 +33,9 @@ pub returns-in_err-check-2-clause-refused : goal.returns-in_err-check-2-clause-r
 returns-in_err-check-2-clause-refused c =
     let p = err_from_is_err_and c.from_residual-in_err-check-2.result c.from_residual-in_err-check-2.ensures.1 in
     rw (p.1, p.2)
-    (refused_by Known c.args.typed.diagram.now c.in_err-check-2.field-0.0 (λ fault broken. inr (inl (record { narrow = c.in_ok-check.ensures.kept; unknown = broken }))) c.in_err-check-2.ensures.refused)
+    (refused_by Known c.args.typed.diagram.now c.in_err-check-2.field-0.0
+    (λ fault broken. inr (inl (record { narrow = c.in_ok-check.ensures.kept; unknown = broken })))
+    c.in_err-check-2.ensures.refused)
 
 pub returns-in_err-check-3-clause-refused : goal.returns-in_err-check-3-clause-refused
 returns-in_err-check-3-clause-refused c =

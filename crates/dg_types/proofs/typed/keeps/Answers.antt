@@ -19,7 +19,8 @@ record IsRead (diagram : Diagram) (place : ℕ) (own block : Block) (inputs : Ty
   here : own ≡ block
   inputs_are : inputs ≡ input_types diagram (types_of diagram) place
 
-read : (diagram : Diagram) (blocks : List Block) (forms : List Form) (sources : List (List Source)) (types : Types) (place : ℕ) (none block : Block) (own : List Source) → IsTyped diagram blocks forms sources types →
+read : (diagram : Diagram) (blocks : List Block) (forms : List Form) (sources : List (List Source)) (types : Types)
+    (place : ℕ) (none block : Block) (own : List Source) → IsTyped diagram blocks forms sources types →
     place < length diagram.blocks → slice_get diagram.blocks place ≡ Some block → own ≡ get_or sources place [] → IsRead diagram place (get_or blocks place none) block (source_types types own)
 read diagram blocks forms sources types place none block own typed there at own_are = record {
   here = ap (λ (bs : List Block). get_or bs place none) typed.blocks_are ∙ get_or_from_slice_get diagram.blocks place block none at;
@@ -43,17 +44,29 @@ agrees-requires c = record { there = rw (c.requires.typed.types_size ∙ sym c.r
 pub returns-in-Narrow : goal.returns-in-Narrow
 returns-in-Narrow c block at =
     let links = c.args.typed.round.now.links in
-    let is = read c.args.typed.diagram.now c.args.typed.round.now.blocks.now (all_forms links.blocks.now) links.sources c.args.typed.types.now c.args.place c.index-typed-place.result block c.sources_of-sources.result.now c.requires.typed c.requires.there at c.sources_of-sources.ensures.value in
+    let is = read c.args.typed.diagram.now c.args.typed.round.now.blocks.now
+    (all_forms links.blocks.now) links.sources c.args.typed.types.now c.args.place c.index-typed-place.result
+    block c.sources_of-sources.result.now c.requires.typed c.requires.there at
+    c.sources_of-sources.ensures.value in
     is_narrow_part c.args.typed.diagram.now c.args.place c.args.part _ block is.here _ is.inputs_are c.is_narrow.result c.in-Narrow.is c.is_narrow.ensures
 
 pub returns-in-Known : goal.returns-in-Known
 returns-in-Known c block at =
     let links = c.args.typed.round.now.links in
-    let is = read c.args.typed.diagram.now c.args.typed.round.now.blocks.now (all_forms links.blocks.now) links.sources c.args.typed.types.now c.args.place c.index-typed-place.result block c.sources_of-sources.result.now c.requires.typed c.requires.there at c.sources_of-sources.ensures.value in
-    is_known_part c.args.typed.diagram.now c.args.place c.args.part _ block is.here _ is.inputs_are c.has_types.result (known_at c.args.typed.types.now c.args.place) (ap (λ (ts : Types). known_at ts c.args.place) c.requires.typed.types_are) c.in-Known.is c.has_types.ensures
+    let is = read c.args.typed.diagram.now c.args.typed.round.now.blocks.now
+    (all_forms links.blocks.now) links.sources c.args.typed.types.now c.args.place c.index-typed-place.result
+    block c.sources_of-sources.result.now c.requires.typed c.requires.there at
+    c.sources_of-sources.ensures.value in
+    is_known_part c.args.typed.diagram.now c.args.place c.args.part _ block is.here _ is.inputs_are
+    c.has_types.result (known_at c.args.typed.types.now c.args.place)
+    (ap (λ (ts : Types). known_at ts c.args.place) c.requires.typed.types_are) c.in-Known.is
+    c.has_types.ensures
 
 pub returns-in-Agree : goal.returns-in-Agree
 returns-in-Agree c block at =
     let links = c.args.typed.round.now.links in
-    let is = read c.args.typed.diagram.now c.args.typed.round.now.blocks.now (all_forms links.blocks.now) links.sources c.args.typed.types.now c.args.place c.index-typed-place.result block c.sources_of-sources.result.now c.requires.typed c.requires.there at c.sources_of-sources.ensures.value in
+    let is = read c.args.typed.diagram.now c.args.typed.round.now.blocks.now
+    (all_forms links.blocks.now) links.sources c.args.typed.types.now c.args.place c.index-typed-place.result
+    block c.sources_of-sources.result.now c.requires.typed c.requires.there at
+    c.sources_of-sources.ensures.value in
     is_agree_part c.args.typed.diagram.now c.args.place c.args.part _ block is.here _ is.inputs_are c.agrees.result c.in-Agree.is c.agrees.ensures

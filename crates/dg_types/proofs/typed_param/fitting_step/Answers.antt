@@ -19,7 +19,9 @@ fits c =
     c.fits_at.ensures ∙ ap (λ (z : ℤ). is_in_range (Num c.args.signed c.args.width z) (rounded_of c.args.decimal z)) frac
 
 -- what is found from here on, by whether the step fits
-found : (c : After-fits_at) (b : Bool) → c.fits_at.result ≡ b → find (test c) (range_with_len c.loop-k.k (193 - c.loop-k.k)) ≡ cond b (Some c.loop-k.k) (find (test c) (range_with_len (c.loop-k.k + 1) (193 - (c.loop-k.k + 1))))
+found : (c : After-fits_at) (b : Bool) → c.fits_at.result ≡ b
+    → find (test c) (range_with_len c.loop-k.k (193 - c.loop-k.k))
+    ≡ cond b (Some c.loop-k.k) (find (test c) (range_with_len (c.loop-k.k + 1) (193 - (c.loop-k.k + 1))))
 found c b is =
     let k = c.loop-k.k in
     search_step (test c) k 193 c.loop-k-test.true ∙ ap (λ (b : Bool). cond b (Some k) (find (test c) (range_with_len (k + 1) (193 - (k + 1))))) (sym (fits c) ∙ is)

@@ -15,7 +15,8 @@ pub returns-in_default-clause-value : goal.returns-in_default-clause-value
 returns-in_default-clause-value c =
     let s = c.is_param_signed-signed.ensures in
     let w = width_is c.args.value.now c.args.input c.is_param_signed-signed.result c.width.result c.param_width-width.result s c.width.ensures c.param_width-width.ensures in
-    internal_none c.args.value.now c.args.input c.is_param_signed-signed.result c.param_width-width.result s w (sym c.are_zero.ensures ∙ c.if-are_zero.false) (sym c.in_default.is ∙ c.greatest_fit.ensures.value)
+    internal_none c.args.value.now c.args.input c.is_param_signed-signed.result c.param_width-width.result s w
+    (sym c.are_zero.ensures ∙ c.if-are_zero.false) (sym c.in_default.is ∙ c.greatest_fit.ensures.value)
 
 pub returns-clause-value : goal.returns-clause-value
 returns-clause-value c =
@@ -24,4 +25,6 @@ returns-clause-value c =
     let fits : FitsSigned w16 c.in-Some.frac = search rules in
     let frac : to_z w16 (of_z w16 c.in-Some.frac) ≡ c.in-Some.frac = to_z-of_z w16 c.in-Some.frac fits in
     ap (λ (z : ℤ). Some (Num c.is_param_signed-signed.result c.param_width-width.result z)) frac
-    ∙ internal_some c.args.value.now c.args.input c.is_param_signed-signed.result c.param_width-width.result s w c.in-Some.frac (sym c.are_zero.ensures ∙ c.if-are_zero.false) (sym c.in-Some.is ∙ c.greatest_fit.ensures.value)
+    ∙ internal_some c.args.value.now c.args.input c.is_param_signed-signed.result c.param_width-width.result s w
+    c.in-Some.frac (sym c.are_zero.ensures ∙ c.if-are_zero.false)
+    (sym c.in-Some.is ∙ c.greatest_fit.ensures.value)

@@ -18,5 +18,9 @@ loop-source-preserved c =
 
 pub returns-then-not-is_same : goal.returns-then-not-is_same
 returns-then-not-is_same c =
-    let no : c.is_same.result ≡ false = grind arith in
-    ((λ impossible. absurd (false≢true impossible)), (λ all. absurd (false≢true (sym no ∙ c.is_same.ensures.1 (at_input (λ (o : Option FxType). o ≡ c.args.kind) c.args.values.now c.args.sources.now c.loop-source.source-index _ c.loop-source-test.true all)))))
+    let no : c.is_same.result ≡ false = grind arith in (
+      (λ impossible. absurd (false≢true impossible)),
+      (λ all. absurd (false≢true (sym no ∙ c.is_same.ensures.1
+          (at_input (λ (o : Option FxType). o ≡ c.args.kind) c.args.values.now c.args.sources.now
+          c.loop-source.source-index _ c.loop-source-test.true all)))),
+    )

@@ -19,5 +19,9 @@ loop-source-preserved c =
 
 pub returns-then-not-is_known : goal.returns-then-not-is_known
 returns-then-not-is_known c =
-    let no : c.is_known.result ≡ false = grind arith in
-    ((λ impossible. absurd (false≢true impossible)), (λ all. absurd (false≢true (sym no ∙ c.is_known.ensures.1 (at_input (λ (o : Option FxType). IsSome o) c.args.values.now c.args.sources.now c.loop-source.source-index _ c.loop-source-test.true all)))))
+    let no : c.is_known.result ≡ false = grind arith in (
+      (λ impossible. absurd (false≢true impossible)),
+      (λ all. absurd (false≢true (sym no ∙ c.is_known.ensures.1
+          (at_input (λ (o : Option FxType). IsSome o) c.args.values.now c.args.sources.now
+          c.loop-source.source-index _ c.loop-source-test.true all)))),
+    )

@@ -23,7 +23,8 @@ loop-input-preserved c =
     let room : i < length c.loop-input.terms = omega (arith, c.loop-input.invariant.long, c.requires.few) in
     record {
       long = length-set c.loop-input.terms i (get_or c.args.negative.now i false, c.in-Some.kind) ∙ c.loop-input.invariant.long;
-      gathered = sum_step c.args.accum c.args.negative.now types c.loop-input.terms i c.loop-input-test.true same (get_or c.args.negative.now i false) false c.in-Some.kind room refl known c.loop-input.invariant.gathered;
+      gathered = sum_step c.args.accum c.args.negative.now types c.loop-input.terms i c.loop-input-test.true same
+          (get_or c.args.negative.now i false) false c.in-Some.kind room refl known c.loop-input.invariant.gathered;
       valid = valid_more c.loop-input.terms i (get_or c.args.negative.now i false) c.in-Some.kind room c.in-Some.ensures.valid c.loop-input.invariant.valid;
     }
 

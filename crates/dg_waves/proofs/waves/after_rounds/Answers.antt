@@ -14,7 +14,10 @@ loop-k-preserved g c =
     let values = written_back c.loop-k.values.len c.wave.new.values c.loop-k.values.items (after.between.size ∙ sym before.between.size ∙ sym c.loop-k.values.ok.0) in
     let marks = written_back c.loop-k.marks.len c.wave.new.marks c.loop-k.marks.items (after.between.marks_size ∙ sym before.between.marks_size ∙ sym c.loop-k.marks.ok.0) in
     record {
-      values = values ∙ after.round ∙ ap (round (g.R.Round.next c.args.round.now)) (c.as_mut_slice.ensures.value ∙ before.values) ∙ ap (λ n. after_rounds (g.R.Round.next c.args.round.now) n c.args.start.items) (sym (add-one c.loop-k.k));
+      values = values ∙ after.round ∙ ap (round (g.R.Round.next c.args.round.now))
+          (c.as_mut_slice.ensures.value ∙ before.values)
+          ∙ ap (λ n. after_rounds (g.R.Round.next c.args.round.now) n c.args.start.items)
+          (sym (add-one c.loop-k.k));
       between = rw (values, marks) after.between;
     }
 
@@ -26,7 +29,9 @@ loop-k-init g c =
     let none : c.in_ok-marks.marks.items ≡ replicate (length c.args.start.items) false = rw (← marks) (c.in_ok-marks.ensures.items_if_clones_equal (λ y same. same)) in
     record {
       values = refl;
-      between = between_first (g.R.Round.count c.args.round.now) (g.R.Round.IsValue c.args.round.now) (g.R.Round.next c.args.round.now) c.args.start.items waiting c.in_ok-marks.marks.items c.requires.size c.requires.fit
+      between = between_first (g.R.Round.count c.args.round.now) (g.R.Round.IsValue c.args.round.now)
+          (g.R.Round.next c.args.round.now) c.args.start.items waiting c.in_ok-marks.marks.items c.requires.size
+          c.requires.fit
           (subst (λ (n : ℕ). All (λ block. block < n) waiting) count c.in_ok-waiting.ensures.there)
           (subst (λ (n : ℕ). (block : ℕ) → block < n → is_in block waiting ≡ true) count c.in_ok-waiting.ensures.all)
           none;

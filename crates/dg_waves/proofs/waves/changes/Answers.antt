@@ -15,7 +15,9 @@ loop-block-preserved g c =
     let rest = drop (c.loop-block.block-index + 1) waiting in
     let more : drop c.loop-block.block-index waiting ≡ block ∷ rest = drop_more waiting c.loop-block.block-index 0 (omega arith) in
     let inside : block < length c.loop-block.marks = omega (arith, c.requires.between.there c.loop-block.block-index 0 c.loop-block-test.true, c.loop-block.invariant.marks_size) in
-    let wait : MarkedWait (set c.loop-block.marks block false) rest = unmarked c.loop-block.marks block rest inside (subst (λ (left : List ℕ). MarkedWait c.loop-block.marks left) more c.loop-block.invariant.wait) in
+    let wait : MarkedWait (set c.loop-block.marks block false) rest =
+    unmarked c.loop-block.marks block rest inside
+    (subst (λ (left : List ℕ). MarkedWait c.loop-block.marks left) more c.loop-block.invariant.wait) in
     let before = rw more at c.loop-block.invariant.sought in
     elim c.match-other_value.branch [
       | in-Some+in_ok-push w ↦
@@ -23,7 +25,10 @@ loop-block-preserved g c =
           record {
             marks_size = length_set c.loop-block.marks block false ∙ c.loop-block.invariant.marks_size;
             sought = rw (w.found-is, items) (sought_found _ _ _ (record { block = block; value = w.in-Some.value }) rest w.in-Some.ensures.next w.in-Some.ensures.other before);
-            there = rw (w.found-is, items) (All-push (λ (change : Change _). change.block < g.R.Round.count c.args.round.now) c.loop-block.found.items (record { block = block; value = w.in-Some.value }) c.loop-block.invariant.there (omega (arith, inside, c.loop-block.invariant.marks_size)));
+            there = rw (w.found-is, items) (All-push
+                (λ (change : Change _). change.block < g.R.Round.count c.args.round.now) c.loop-block.found.items
+                (record { block = block; value = w.in-Some.value }) c.loop-block.invariant.there
+                (omega (arith, inside, c.loop-block.invariant.marks_size)));
             wait = wait;
           }
       | in_default w ↦ record {

@@ -13,7 +13,9 @@ loop-block-preserved c =
     let block = get_or blocks c.loop-block.block-index 0 in
     let rest = drop (c.loop-block.block-index + 1) blocks in
     let more : drop c.loop-block.block-index blocks ≡ block ∷ rest = drop_more blocks c.loop-block.block-index 0 (omega arith) in
-    let before : Marked c.args.marks.now c.loop-block.marks blocks (block ∷ rest) = subst (λ (left : List ℕ). Marked c.args.marks.now c.loop-block.marks blocks left) more c.loop-block.invariant.marked in
+    let before : Marked c.args.marks.now c.loop-block.marks blocks (block ∷ rest) =
+    subst (λ (left : List ℕ). Marked c.args.marks.now c.loop-block.marks blocks left) more
+    c.loop-block.invariant.marked in
     let inside : block < length c.loop-block.marks = omega (arith, c.requires.blocks_there c.loop-block.block-index 0 c.loop-block-test.true, c.loop-block.invariant.size) in
     elim c.if-not-marks-block.branch [
       | then-not-marks-block+in_ok-push w ↦

@@ -26,14 +26,29 @@ loop-change-preserved g c =
     }
 
 pub loop-change-init : goal.loop-change-init
-loop-change-init g c = record { size = c.requires.size; marks_size = c.requires.marks_size; there = c.requires.there; wait = c.requires.wait; once = c.requires.once; left = refl; marked = record { marked = λ block reader changes left. absurd (true≢false (sym changes ∙ left)) } }
+loop-change-init g c = record {
+  size = c.requires.size;
+  marks_size = c.requires.marks_size;
+  there =
+      c.requires.there;
+  wait = c.requires.wait;
+  once = c.requires.once;
+  left =
+      refl;
+  marked = record { marked = λ block reader changes left. absurd (true≢false (sym changes ∙ left)) };
+}
 
 pub readers-requires : goal.readers-requires
-readers-requires g c = record { there = subst (λ (x : Change _). x.block < g.R.Round.count c.args.round.now) (sym c.change-item.is) (c.requires.changes_there c.loop-change.change-index c.change-item.result c.loop-change-test.true) }
+readers-requires g c = record {
+  there =
+      subst (λ (x : Change _). x.block < g.R.Round.count c.args.round.now) (sym c.change-item.is)
+      (c.requires.changes_there c.loop-change.change-index c.change-item.result c.loop-change-test.true);
+}
 
 pub let_wait-requires-clause-blocks_there : goal.let_wait-requires-clause-blocks_there
 let_wait-requires-clause-blocks_there g c =
-    let there = subst (λ (x : Change _). x.block < g.R.Round.count c.args.round.now) (sym c.change-item.is) (c.requires.changes_there c.loop-change.change-index c.change-item.result c.loop-change-test.true) in
+    let there = subst (λ (x : Change _). x.block < g.R.Round.count c.args.round.now) (sym c.change-item.is)
+    (c.requires.changes_there c.loop-change.change-index c.change-item.result c.loop-change-test.true) in
     rw (c.readers.ensures, c.loop-change.invariant.marks_size) (g.met.R.Round.readers_there c.args.round.now c.change-item.result.block there)
 
 pub let_wait-requires-clause-there : goal.let_wait-requires-clause-there
@@ -56,5 +71,6 @@ returns-clause-marked g c = rw (drop_all c.loop-change.change-index c.args.chang
 
 pub bounds-values-change : goal.bounds-values-change
 bounds-values-change g c =
-    let there = subst (λ (x : Change _). x.block < g.R.Round.count c.args.round.now) (sym c.change-item.is) (c.requires.changes_there c.loop-change.change-index c.change-item.result c.loop-change-test.true) in
+    let there = subst (λ (x : Change _). x.block < g.R.Round.count c.args.round.now) (sym c.change-item.is)
+    (c.requires.changes_there c.loop-change.change-index c.change-item.result c.loop-change-test.true) in
     omega (arith, there, c.loop-change.invariant.size)

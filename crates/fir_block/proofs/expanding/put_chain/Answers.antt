@@ -8,8 +8,12 @@ loop-k-init c = refl
 
 pub loop-k-preserved : goal.loop-k-preserved
 loop-k-preserved c =
-    one_over (λ k. line (c.args.first + (k - 1)) (c.args.first + k) 1) c.loop-k.k c.args.count c.loop-k.edges (c.args.edges.now ++ (chain_of c.args.first c.args.count)) _ _ (omega (arith, c.loop-k-test.true)) c.loop-k.invariant c.in_ok-join.ensures refl
+    one_over (λ k. line (c.args.first + (k - 1)) (c.args.first + k) 1) c.loop-k.k c.args.count c.loop-k.edges
+    (c.args.edges.now ++ (chain_of c.args.first c.args.count)) _ _
+    (omega (arith, c.loop-k-test.true)) c.loop-k.invariant c.in_ok-join.ensures refl
 
 pub returns : goal.returns
 returns c =
-    all_over (λ k. line (c.args.first + (k - 1)) (c.args.first + k) 1) c.loop-k.k c.args.count c.loop-k.edges (c.args.edges.now ++ (chain_of c.args.first c.args.count)) (omega (arith, c.loop-k-test.false)) c.loop-k.invariant
+    all_over (λ k. line (c.args.first + (k - 1)) (c.args.first + k) 1) c.loop-k.k c.args.count c.loop-k.edges
+    (c.args.edges.now ++ (chain_of c.args.first c.args.count))
+    (omega (arith, c.loop-k-test.false)) c.loop-k.invariant

@@ -12,7 +12,9 @@ use Rattle.fx_num.proofs.word.wrap.Goals.{After-cast_unsigned}
 bits_are : (c : After-cast_unsigned) → c.cast_unsigned.result ≡ of_z w128 c.args.v
 bits_are c = c.cast_unsigned.ensures ∙ ap (of_z w128) (to_z-of_z w128 c.args.v c.ranges.v)
 
-wrapped : (c : After-cast_unsigned) → IsWrapped c.args.v c.args.width false (pos (c.cast_unsigned.result * 2 ^ (128 - c.args.width) % 340282366920938463463374607431768211456 / 2 ^ (128 - c.args.width)))
+wrapped : (c : After-cast_unsigned) → IsWrapped c.args.v c.args.width false
+    (pos (c.cast_unsigned.result * 2 ^ (128 - c.args.width) % 340282366920938463463374607431768211456 / 2 ^
+    (128 - c.args.width)))
 wrapped c =
     let h = word_width c.args.width c.args.signed c.requires in
     rw (bits_are c) (wrapped_unsigned w128 c.args.v (128 - c.args.width) c.ranges.v c.args.width h.0 (omega (arith, h.1)))

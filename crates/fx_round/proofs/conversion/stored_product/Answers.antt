@@ -30,7 +30,9 @@ shift_up-shifted-requires-clause-few c = omega (arith, room c)
 
 pub shift_up-shifted-requires-clause-room : goal.shift_up-shifted-requires-clause-room
 shift_up-shifted-requires-clause-room c =
-    let fits = word_fits 63 c.args.from_signed (c.args.v *ℤ pos (2 ^ c.args.by)) (omega arith) (raised_stays c.args.from_signed c.args.v c.args.bits c.args.by 63 c.requires.some (room c) c.requires.number) in
+    let fits = word_fits 63 c.args.from_signed (c.args.v *ℤ pos (2 ^ c.args.by)) (omega arith)
+    (raised_stays c.args.from_signed c.args.v c.args.bits c.args.by 63 c.requires.some
+    (room c) c.requires.number) in
     let number : InWord 64 true (c.args.v *ℤ pos (2 ^ c.args.by)) = record { low = omega (arith, ints, fits); high = omega (arith, ints, fits) } in
     rw (few c) number
 
@@ -49,8 +51,13 @@ returns-then-most-from c frac =
 pub returns-else-from_signed-signed : goal.returns-else-from_signed-signed
 returns-else-from_signed-signed c frac =
     let e = c.from-else-from_signed-signed in
-    let r : to_z w128 (of_z w128 e.result) ≡ c.stored_number.result = to_z-of_z w128 e.result (record { sfits = e.type_inv }) ∙ e.ensures ∙ to_z-of_z w64 c.stored_number.result (record { sfits = c.stored_number.type_inv }) in
-    let settled : Settles (Num c.args.signed c.args.width frac) c.args.saturate (c.args.v *ℤ pos (2 ^ c.args.by)) c.stored_number.result = rw (shifted (goal.at.returns-else-from_signed-signed c).After-shift_up-shifted) at (c.stored_number.ensures frac) in
+    let r : to_z w128 (of_z w128 e.result) ≡ c.stored_number.result =
+    to_z-of_z w128 e.result (record { sfits = e.type_inv }) ∙ e.ensures
+    ∙ to_z-of_z w64 c.stored_number.result (record { sfits = c.stored_number.type_inv }) in
+    let settled : Settles (Num c.args.signed c.args.width frac) c.args.saturate
+    (c.args.v *ℤ pos (2 ^ c.args.by)) c.stored_number.result =
+    rw (shifted (goal.at.returns-else-from_signed-signed c).After-shift_up-shifted) at
+    (c.stored_number.ensures frac) in
     rw r settled
 
 pub returns-else-from-most-le63 : goal.returns-else-from-most-le63

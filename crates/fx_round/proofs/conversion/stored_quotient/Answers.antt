@@ -39,7 +39,9 @@ returns-then-from-by-le63 c frac =
     let e = c.from-then-from-by-le63 in
     let rounded : to_z w64 (of_z w64 q) ≡ q = to_z-of_z w64 q (record { sfits = c.rounded_down-rounded.type_inv }) in
     let rounds : Rounds c.args.mode c.args.v (2 ^ c.args.by) q = rw n at c.rounded_down-rounded.ensures in
-    let r : to_z w128 (of_z w128 e.result) ≡ c.stored_number.result = to_z-of_z w128 e.result (record { sfits = e.type_inv }) ∙ e.ensures ∙ to_z-of_z w64 c.stored_number.result (record { sfits = c.stored_number.type_inv }) in
+    let r : to_z w128 (of_z w128 e.result) ≡ c.stored_number.result =
+    to_z-of_z w128 e.result (record { sfits = e.type_inv }) ∙ e.ensures
+    ∙ to_z-of_z w64 c.stored_number.result (record { sfits = c.stored_number.type_inv }) in
     let settled : Settles (Num c.args.signed c.args.width frac) c.args.saturate q c.stored_number.result = rw rounded at (c.stored_number.ensures frac) in
     rw r (record { rounded = q; rounds = rounds; settles = settled })
 

@@ -17,7 +17,9 @@ wrapped : (c : After-cast_unsigned) → IsWrapped c.args.r c.args.width false (p
 wrapped c =
     let h = word_width c.args.width c.args.signed c.requires.word in
     let all : 64 - c.args.width + c.args.width ≡ 64 = omega (arith, c.requires.few) in
-    let mask : 18446744073709551615 / 2 ^ (64 - c.args.width) + 1 ≡ 2 ^ c.args.width = ap (λ (n : ℕ). (2 ^ n - 1) / 2 ^ (64 - c.args.width) + 1) (sym all) ∙ mask-suc (64 - c.args.width) c.args.width in
+    let mask : 18446744073709551615 / 2 ^ (64 - c.args.width) + 1 ≡ 2 ^ c.args.width =
+    ap (λ (n : ℕ). (2 ^ n - 1) / 2 ^ (64 - c.args.width) + 1) (sym all)
+    ∙ mask-suc (64 - c.args.width) c.args.width in
     rw (bits_are c) (masked_wrapped c.args.r c.args.width _ (omega (arith, c.requires.few)) mask c.ranges.r)
 
 pub overflow_cast-result-else-signed-2 : goal.overflow_cast-result-else-signed-2

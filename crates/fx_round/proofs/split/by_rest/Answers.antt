@@ -49,4 +49,6 @@ returns c =
     let split : IsSplit c.args.v (2 ^ by) floor part.0 = record { rest = rest; whole = near.1; below = near.0; is_part = part.1 } in
     let upper = rw (half_is early, mask_is early, ← double by c.requires.some, bits, v, f) at c.is_upper-next.ensures in
     rw (v, f, flag_is c, to_z-of_z w128 _ (next_fits c))
-    (rounds_next c.args.v (2 ^ by) floor part.0 c.args.mode split _ _ (λ h. omega (arith, ints, h)) (λ h. omega (arith, ints, h)) (odd_test floor) (even_test floor) c.is_upper-next.result (upper part.0 part.1))
+    (rounds_next c.args.v (2 ^ by) floor part.0 c.args.mode split _ _ (λ h. omega (arith, ints, h))
+    (λ h. omega (arith, ints, h)) (odd_test floor) (even_test floor) c.is_upper-next.result
+    (upper part.0 part.1))

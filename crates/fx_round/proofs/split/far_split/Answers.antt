@@ -8,7 +8,8 @@ pub returns-then-v-gt0-clause-split : goal.returns-then-v-gt0-clause-split
 returns-then-v-gt0-clause-split c = far_positive c.args.v c.args.by c.requires c.ranges.v (omega (arith, ints, c.if-v-gt0.true))
 
 pub returns-then-by-eq128-clause-split : goal.returns-then-by-eq128-clause-split
-returns-then-by-eq128-clause-split c = let h = c.if-v-eqminus170141183460469231731687303715884105728.true in rw c.if-by-eq128.true (far_half c.args.v (sym (to_z-of_z w128 c.args.v c.ranges.v) ∙ ap (to_z w128) h))
+returns-then-by-eq128-clause-split c = let h = c.if-v-eqminus170141183460469231731687303715884105728.true in
+    rw c.if-by-eq128.true (far_half c.args.v (sym (to_z-of_z w128 c.args.v c.ranges.v) ∙ ap (to_z w128) h))
 
 pub returns-else-v-eqminus170141183460469231731687303715884105728-clause-split : goal.returns-else-v-eqminus170141183460469231731687303715884105728-clause-split
 returns-else-v-eqminus170141183460469231731687303715884105728-clause-split c =

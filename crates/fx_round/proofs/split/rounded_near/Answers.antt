@@ -16,7 +16,9 @@ pub returns-in-Round : goal.returns-in-Round
 returns-in-Round c = rw c.in-Round.is (by_word c.args.v c.ranges.v Round (2 ^ c.args.by) c.by_rest-in-Round.result (record { sfits = c.by_rest-in-Round.type_inv }) c.by_rest-in-Round.ensures)
 
 pub returns-in-Convergent : goal.returns-in-Convergent
-returns-in-Convergent c = rw c.in-Convergent.is (by_word c.args.v c.ranges.v Convergent (2 ^ c.args.by) c.by_rest-in-Convergent.result (record { sfits = c.by_rest-in-Convergent.type_inv }) c.by_rest-in-Convergent.ensures)
+returns-in-Convergent c = rw c.in-Convergent.is
+    (by_word c.args.v c.ranges.v Convergent (2 ^ c.args.by) c.by_rest-in-Convergent.result
+    (record { sfits = c.by_rest-in-Convergent.type_inv }) c.by_rest-in-Convergent.ensures)
 
 pub returns-in-Floor : goal.returns-in-Floor
 returns-in-Floor c = rw c.in-Floor.is (shift_by_word c.args.v c.ranges.v c.args.by)

@@ -46,7 +46,16 @@ pub returns-else-decimal-ge0 : goal.returns-else-decimal-ge0
 returns-else-decimal-ge0 c =
     let e = c.args.decimal.exponent in
     let order : e ≤ℤ pos 0 = omega (arith, ints, c.args.decimal.least_exponent, c.args.decimal.greatest_exponent, c.if-decimal-ge0.false) in
-    let power : pos c.from.result ≡ neg_ℤ e = omega (arith, ints, c.from.ensures, c.unsigned_abs.ensures.value, c.args.decimal.least_exponent, c.args.decimal.greatest_exponent, c.if-decimal-ge0.false) in
+    let power : pos c.from.result ≡ neg_ℤ e =
+    omega (
+      arith,
+      ints,
+      c.from.ensures,
+      c.unsigned_abs.ensures.value,
+      c.args.decimal.least_exponent,
+      c.args.decimal.greatest_exponent,
+      c.if-decimal-ge0.false,
+    ) in
     let tens = c.pow-power.ensures ∙ ap (λ (n : ℕ). 10 ^ n) (down_gap e c.from.result order power) in
     part_size _ _ c.pow-power.result _ _ _ _ _ c.scaled_number-else-decimal-ge0.result (div-add-mod' c.from-digits.result c.pow-power.result ∙ c.from-digits.ensures) tens (gap_none (pos 0) e order)
     (rw (to_z-of_z w16 c.args.frac c.ranges.frac) at c.scaled_number-else-decimal-ge0.ensures)

@@ -21,7 +21,8 @@ part_of-part-requires-clause-below c = rw (unit_of c.args.by c.requires.few, and
 
 pub returns-then-mixed-eq0 : goal.returns-then-mixed-eq0
 returns-then-mixed-eq0 c =
-    let p : IsPart (2 ^ c.args.by) (c.args.mixed.whole % 2 ^ c.args.by) c.part_of-part.result = rw (unit_of c.args.by c.requires.few, and_mask c.args.mixed.whole c.args.by) at c.part_of-part.ensures in
+    let p : IsPart (2 ^ c.args.by) (c.args.mixed.whole % 2 ^ c.args.by) c.part_of-part.result =
+    rw (unit_of c.args.by c.requires.few, and_mask c.args.mixed.whole c.args.by) at c.part_of-part.ensures in
     let f : to_z w128 (c.args.mixed.whole / 2 ^ c.args.by) ≡ pos (c.args.mixed.whole / 2 ^ c.args.by) = omega (arith, ints, shr_le c.args.mixed.whole c.args.by, c.requires.whole) in
     halved_whole c.args.mixed.whole c.args.mixed.rest c.args.unit c.args.by c.part_of-part.result _ c.requires.rest f c.if-mixed-eq0.true p
 

@@ -29,5 +29,7 @@ returns-then-negative-2 c n d h size =
 
 pub returns-else-negative-2 : goal.returns-else-negative-2
 returns-else-negative-2 c n d h size =
-    let e : to_z w128 (of_z w128 c.highest-else-negative-2.result) ≡ highest_of c.args.to = to_z-of_z w128 c.highest-else-negative-2.result (record { sfits = c.highest-else-negative-2.type_inv }) ∙ c.highest-else-negative-2.ensures in
+    let e : to_z w128 (of_z w128 c.highest-else-negative-2.result) ≡ highest_of c.args.to =
+    to_z-of_z w128 c.highest-else-negative-2.result (record { sfits = c.highest-else-negative-2.type_inv })
+    ∙ c.highest-else-negative-2.ensures in
     rw (c.if-negative-2.false, e) (huge_high n d c.args.to c.requires.valid h (rw c.in-None.is at size))

@@ -11,7 +11,9 @@ returns-then-end-text-clause-line c =
     lines-last text c.requires (λ k h. end.ensures.before k (omega (arith, c.if-end-text.true)))
     ∙ ap (λ tail. text ∷ lines tail) (sym (take_rest text end.result ∙ drop_all end.result text (omega (arith, c.if-end-text.true))))
 
-first_at : (text head : List ℕ) (n : ℕ) → n < length text → ((k : ℕ) → k < n → is_newline (get_or text k 0) ≡ false) → get_or text n 0 ≡ 10 → head ≡ strip_carriage_return (take n text) → lines text ≡ head ∷ lines (take (length text - (n + 1)) (drop (n + 1) text))
+first_at : (text head : List ℕ) (n : ℕ) → n < length text → ((k : ℕ) → k < n → is_newline (get_or text k 0) ≡ false)
+    → get_or text n 0 ≡ 10 → head ≡ strip_carriage_return (take n text)
+    → lines text ≡ head ∷ lines (take (length text - (n + 1)) (drop (n + 1) text))
 first_at text head n inside before found is =
     rw (take_rest text (n + 1), is, add-one) (lines-first n text inside before (ap is_newline found))
 

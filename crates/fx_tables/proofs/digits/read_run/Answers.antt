@@ -27,7 +27,10 @@ loop-length-preserved c = record {
   few = omega arith;
 }
 
-run : (text tail : List ℕ) (count value : ℕ) → 0 < count → count ≤ 18 → count ≤ length text → list_all is_ascii_digit (take count text) ≡ true → value ≡ digits_value 10 (take count text) → value < 10 ^ count → (count < length text → is_blank (get_or text count 0) ≡ true) → fields_of tail ≡ fields_of (drop count text) → IsRunOfDigits text value tail
+run : (text tail : List ℕ) (count value : ℕ) → 0 < count → count ≤ 18 → count ≤ length text
+    → list_all is_ascii_digit (take count text) ≡ true → value ≡ digits_value 10 (take count text)
+    → value < 10 ^ count → (count < length text → is_blank (get_or text count 0) ≡ true)
+    → fields_of tail ≡ fields_of (drop count text) → IsRunOfDigits text value tail
 run text tail count value some few within digits number small ends rest = record {
   count = count;
   some = some;

@@ -6,7 +6,9 @@ use Rattle.fx_text.specs.Strings.{string_behind}
 use Rattle.fx_tables.specs.inner.PlainPlan.{counted_entry, pipeline_entry}
 use Rattle.fx_tables.proofs.entry.read_pipeline.Goals as goal
 
-entry_at : (quote inner rest content : List ℕ) (n : ℕ) → inner ≡ drop 1 quote → rest ≡ drop (1 + n) quote → get_or quote 0 0 ≡ 34 → string_behind inner ≡ Some (content, drop n inner) → counted_entry (Some (content, rest)) ≡ pipeline_entry quote
+entry_at : (quote inner rest content : List ℕ) (n : ℕ) → inner ≡ drop 1 quote → rest ≡ drop (1 + n) quote
+    → get_or quote 0 0 ≡ 34 → string_behind inner ≡ Some (content, drop n inner)
+    → counted_entry (Some (content, rest)) ≡ pipeline_entry quote
 entry_at quote inner rest content n inside after opens reads =
     ap (λ tail. counted_entry (Some (content, tail))) (after ∙ sym (drop-drop n 1 quote) ∙ ap (drop n) (sym inside))
     ∙ ap counted_entry (sym reads ∙ ap string_behind inside)

@@ -14,7 +14,12 @@ loop-k-init c = record {
   text = rest_of_line-none c.args.t c.args.periods.now c.args.values.now c.args.bytes.now c.requires.values (omega arith);
 }
 
-put_more : (t k next : ℕ) (periods : List ℕ) (values : List ℤ) (unused : ℤ) (hit : Bool) (value : ℤ) (rest whole : List ℕ) → length values ≡ length periods → next ≡ k + 1 → k < length periods → hit ≡ hits_at (get_or periods k 0) t → value ≡ get_or values k unused → rest ≡ rest_of_line next (response_fields t periods values) → whole ≡ 32 ∷ (text_of_field hit value ++ rest) → whole ≡ rest_of_line k (response_fields t periods values)
+put_more : (t k next : ℕ) (periods : List ℕ) (values : List ℤ) (unused : ℤ) (hit : Bool) (value : ℤ)
+    (rest whole : List ℕ) → length values ≡ length periods → next ≡ k + 1 → k < length periods
+    → hit ≡ hits_at (get_or periods k 0) t → value ≡ get_or values k unused
+    → rest ≡ rest_of_line next (response_fields t periods values)
+    → whole ≡ 32 ∷ (text_of_field hit value ++ rest)
+    → whole ≡ rest_of_line k (response_fields t periods values)
 put_more t k next periods values unused hit value rest whole same is inside hits reads before after =
     after
     ∙ ap (λ r. 32 ∷ (text_of_field hit value ++ r)) before

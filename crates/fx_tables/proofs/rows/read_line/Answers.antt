@@ -42,8 +42,12 @@ pub returns-in-Err-clause-bad : goal.returns-in-Err-clause-bad
 returns-in-Err-clause-bad c known =
     let head = c.cut_field-cut.result.head.now in
     let some : 0 < length head = grind (arith, nat_tests, c.if-is_empty.ensures) in
-    bad_field c.args.columns.now c.args.sample c.loop-k.k _ (fields_of c.args.line.now) (fields_of c.loop-k.rest.now) (fields_of c.cut_field-cut.result.tail.now) head c.in-Err.cause c.bad-in-Err.result
-    c.loop-k-test.true c.loop-k.invariant.counted c.loop-k.invariant.faults (c.cut_field-cut.ensures.field some) c.in-Err.ensures (c.bad-in-Err.ensures ∙ ap (Bad (c.args.sample + 1)) c.cause_of_line-cause.ensures)
+    bad_field c.args.columns.now c.args.sample c.loop-k.k _ (fields_of c.args.line.now)
+    (fields_of c.loop-k.rest.now)
+    (fields_of c.cut_field-cut.result.tail.now) head c.in-Err.cause c.bad-in-Err.result
+    c.loop-k-test.true c.loop-k.invariant.counted c.loop-k.invariant.faults
+    (c.cut_field-cut.ensures.field some) c.in-Err.ensures
+    (c.bad-in-Err.ensures ∙ ap (Bad (c.args.sample + 1)) c.cause_of_line-cause.ensures)
 
 pub returns-then-has_no_field-clause-read : goal.returns-then-has_no_field-clause-read
 returns-then-has_no_field-clause-read c =

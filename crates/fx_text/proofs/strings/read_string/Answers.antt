@@ -24,7 +24,9 @@ loop-place-preserved c =
     let used = c.in_ok-place.field-0 in
     let rest = take_rest text place in
     let within : used ≤ length (drop place text) = rw rest at c.in_ok-place.ensures.within in
-    let put : prepend c.push_char.new.content.items (string_behind (drop used (drop place text))) ≡ prepend c.loop-place.content.items (string_behind (drop place text)) = rw rest at c.in_ok-place.ensures.put in
+    let put : prepend c.push_char.new.content.items (string_behind (drop used (drop place text)))
+    ≡ prepend c.loop-place.content.items (string_behind (drop place text)) =
+    rw rest at c.in_ok-place.ensures.put in
     record {
       within = omega (arith, within, length-drop place text, c.loop-place-test.true);
       read = ap (λ left. prepend c.push_char.new.content.items (string_behind left)) (sym (drop-drop used place text)) ∙ put ∙ c.loop-place.invariant.read;

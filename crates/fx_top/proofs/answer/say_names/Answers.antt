@@ -12,8 +12,13 @@ returns-in-Err-clause-said g c =
     let mid = g.E.Sink.taken c.loop-name.err in
     let now = g.E.Sink.taken c.put_two.new.err in
     let cut = subst (λ (n : List ℕ). TookProperPrefix mid now (32 ∷ n)) c.bytes.ensures c.in-Err.ensures.cut in
-    said-cut told now (g.E.Sink.faults c.args.err.now) (g.E.Sink.faults c.loop-name.err) (g.E.Sink.faults c.put_two.new.err) (names_end c.args.names.now) c.loop-name.invariant.later c.in-Err.ensures.cause
-    (took-split told mid now (flat_map (λ (name : List ℕ). 32 ∷ name) (take c.loop-name.name-index c.args.names.now)) (32 ∷ c.name-item.result) (names-split c.args.names.now c.loop-name.name-index c.name-item.result c.loop-name-test.true c.name-item.is) c.loop-name.invariant.taken cut)
+    said-cut told now (g.E.Sink.faults c.args.err.now) (g.E.Sink.faults c.loop-name.err)
+    (g.E.Sink.faults c.put_two.new.err)
+    (names_end c.args.names.now) c.loop-name.invariant.later c.in-Err.ensures.cause
+    (took-split told mid now (flat_map (λ (name : List ℕ). 32 ∷ name)
+    (take c.loop-name.name-index c.args.names.now)) (32 ∷ c.name-item.result)
+    (names-split c.args.names.now c.loop-name.name-index c.name-item.result c.loop-name-test.true
+    c.name-item.is) c.loop-name.invariant.taken cut)
 
 pub returns-clause-said : goal.returns-clause-said
 returns-clause-said g c =

@@ -7,4 +7,5 @@ returns-in-Err g c = (c.of_design.ensures.design c.args.model.now c.args.plan.no
 
 pub returns-in-Ok-gather : goal.returns-in-Ok-gather
 returns-in-Ok-gather g c =
-    check-put c.args.model.now c.args.plan.now c.in-Ok.designed c.in-Ok.ensures.designed g.K.Sink.taken g.K.Sink.faults c.args.out.now c.put_check-put.new.out c.put_check-put.result c.put_check-put.ensures
+    check-put c.args.model.now c.args.plan.now c.in-Ok.designed c.in-Ok.ensures.designed g.K.Sink.taken
+    g.K.Sink.faults c.args.out.now c.put_check-put.new.out c.put_check-put.result c.put_check-put.ensures

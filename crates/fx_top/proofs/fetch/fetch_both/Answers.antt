@@ -10,7 +10,9 @@ use Rattle.fx_top.proofs.FetchFaults.{moved, pair-first}
 use Rattle.fx_top.proofs.fetch.fetch_both.Goals as goal
 
 pub returns-in-Err-clause-refused : goal.returns-in-Err-clause-refused
-returns-in-Err-clause-refused g c = pair-first (files_in g.S.Shelf.held g.S.Shelf.steady g.S.Shelf.faults g.S.Shelf.overlong c.args.shelf.now c.fetch_file.new.shelf) c.args.first.now c.args.second c.in-Err.answer c.in-Err.ensures.refused
+returns-in-Err-clause-refused g c = pair-first
+    (files_in g.S.Shelf.held g.S.Shelf.steady g.S.Shelf.faults g.S.Shelf.overlong c.args.shelf.now
+    c.fetch_file.new.shelf) c.args.first.now c.args.second c.in-Err.answer c.in-Err.ensures.refused
 
 pub returns-in-Ok-fetch_file-clause-says : goal.returns-in-Ok-fetch_file-clause-says
 returns-in-Ok-fetch_file-clause-says g c =
@@ -24,12 +26,16 @@ returns-in-Err-fetch_file-clause-refused g c =
     let new = c.fetch_file-2.new.shelf in
     let files = files_in g.S.Shelf.held g.S.Shelf.steady g.S.Shelf.faults g.S.Shelf.overlong old new in
     let failed : Rose (g.S.Shelf.faults mid) (g.S.Shelf.faults new) → Rose (g.S.Shelf.faults old) (g.S.Shelf.faults new) = λ r. (let l = c.in-Ok.ensures.later in omega (arith, r, l)) in
-    let overlong : Rose (g.S.Shelf.overlong mid) (g.S.Shelf.overlong new) → Rose (g.S.Shelf.overlong old) (g.S.Shelf.overlong new) = λ r. (let l = c.in-Ok.ensures.overlong_later in omega (arith, r, l)) in
+    let overlong : Rose (g.S.Shelf.overlong mid) (g.S.Shelf.overlong new)
+    → Rose (g.S.Shelf.overlong old) (g.S.Shelf.overlong new) =
+    λ r. (let l = c.in-Ok.ensures.overlong_later in omega (arith, r, l)) in
     subst (λ (word : Option (Bor (List ℕ))). IsPairAnswer files c.args.first.now (word_of word) c.in-Err-fetch_file.answer) (sym c.in-Some.is)
     (inr (
       c.in-Ok.first,
       (
         c.in-Ok.ensures.found,
-        moved files (files_in g.S.Shelf.held g.S.Shelf.steady g.S.Shelf.faults g.S.Shelf.overlong mid new) c.in-Some.second.now c.in-Err-fetch_file.answer c.in-Ok.ensures.kept c.in-Ok.ensures.stays_steady failed overlong c.in-Err-fetch_file.ensures.refused,
+        moved files (files_in g.S.Shelf.held g.S.Shelf.steady g.S.Shelf.faults g.S.Shelf.overlong mid new)
+            c.in-Some.second.now c.in-Err-fetch_file.answer c.in-Ok.ensures.kept c.in-Ok.ensures.stays_steady failed
+            overlong c.in-Err-fetch_file.ensures.refused,
       ),
     ))

@@ -9,4 +9,6 @@ returns-in-Err-clause-cut g c =
     let mid = g.K.Sink.taken c.loop-part.out in
     let now = g.K.Sink.taken c.put_all.new.sink in
     let cut = subst (λ (bytes : List ℕ). TookProperPrefix mid now bytes) c.as_slice.ensures.value c.in-Err.ensures.cut in
-    took-split (g.K.Sink.taken c.args.out.now) mid now _ c.part-item.result.items (parts-split c.args.parts.now c.loop-part.part-index c.part-item.result c.loop-part-test.true c.part-item.is) c.loop-part.invariant.taken cut
+    took-split (g.K.Sink.taken c.args.out.now) mid now _ c.part-item.result.items
+    (parts-split c.args.parts.now c.loop-part.part-index c.part-item.result c.loop-part-test.true
+    c.part-item.is) c.loop-part.invariant.taken cut

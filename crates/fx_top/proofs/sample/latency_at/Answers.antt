@@ -15,7 +15,9 @@ clocks_of-requires-clause-there c =
     subst (λ (block : ℕ). block < length diagram.blocks) (sym h.1) (c.requires.there c.args.place c.in-Some.block.now h.3.0)
 
 pub returns-in-None : goal.returns-in-None
-returns-in-None c = latency_past c.args.checked.now.diagram c.args.planned.now.resolved (timing_in c.args.planned.now.times) c.args.outputs.now c.requires.listed c.args.place c.in-None.ensures.lookup.3
+returns-in-None c = latency_past c.args.checked.now.diagram c.args.planned.now.resolved
+    (timing_in c.args.planned.now.times) c.args.outputs.now c.requires.listed c.args.place
+    c.in-None.ensures.lookup.3
 
 pub returns-in-Some : goal.returns-in-Some
 returns-in-Some c =

@@ -8,7 +8,12 @@ use Rattle.fx_top.proofs.sample.sample_response.Goals as goal
 
 pub returns-in-Err-Bad-clause-made : goal.returns-in-Err-Bad-clause-made
 returns-in-Err-Bad-clause-made c =
-    inr (unfit c.args.number c.in-Err-Bad.field-0-0 c.in-Err-Bad.field-0-1 c.args.checked.now.diagram c.bytes.result.now _ c.requires.model (c.bytes.ensures ∙ c.in_ok-stimulus.ensures) c.in-Err-Bad.field-0-is c.in-Err-Bad.ensures.refused, c.new.ensures)
+    inr (
+      unfit c.args.number c.in-Err-Bad.field-0-0 c.in-Err-Bad.field-0-1 c.args.checked.now.diagram
+          c.bytes.result.now _ c.requires.model
+          (c.bytes.ensures ∙ c.in_ok-stimulus.ensures) c.in-Err-Bad.field-0-is c.in-Err-Bad.ensures.refused,
+      c.new.ensures,
+    )
 
 pub returns-clause-made : goal.returns-clause-made
 returns-clause-made c =

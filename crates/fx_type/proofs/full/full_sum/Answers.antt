@@ -26,7 +26,9 @@ returns-in_err-span-clause-too_wide c =
 pub returns-clause-ok : goal.returns-clause-ok
 returns-clause-ok c =
     let e = to_z-of_z w16 c.greatest_frac-frac.result (record { sfits = c.greatest_frac-frac.type_inv }) in
-    let ends : IsSpan (sum_of (least_term c.greatest_frac-frac.result) c.args.terms.now) (sum_of (greatest_term c.greatest_frac-frac.result) c.args.terms.now) c.in_ok-span.span = rw e at c.in_ok-span.ensures in
+    let ends : IsSpan (sum_of (least_term c.greatest_frac-frac.result) c.args.terms.now)
+    (sum_of (greatest_term c.greatest_frac-frac.result) c.args.terms.now) c.in_ok-span.span =
+    rw e at c.in_ok-span.ensures in
     let n : IsNarrowest c.in_ok-span.span.low c.in_ok-span.span.high c.greatest_frac-frac.result c.narrowest.result = rw e at c.narrowest.ensures in
     full_sum_is c.args.terms.now c.greatest_frac-frac.result c.in_ok-span.span c.narrowest.result c.greatest_frac-frac.ensures ends n
 

@@ -18,7 +18,9 @@ loop-kind-preserved c =
     let k = to_z-of_z w16 c.frac.result (record { sfits = c.frac.type_inv }) in
     let e = to_z-of_z w16 c.max-greatest.result (record { sfits = c.max-greatest.type_inv }) in
     rw e (record {
-      bound = bound_more c.args.terms.now i no_term c.loop-kind-test.true old f c.max-greatest.result c.loop-kind.invariant.bound (k ∙ c.frac.ensures) c.max-greatest.ensures.self_bound c.max-greatest.ensures.other_bound;
+      bound = bound_more c.args.terms.now i no_term c.loop-kind-test.true old f c.max-greatest.result
+          c.loop-kind.invariant.bound
+          (k ∙ c.frac.ensures) c.max-greatest.ensures.self_bound c.max-greatest.ensures.other_bound;
       reached = reached_more c.args.terms.now i no_term c.loop-kind-test.true old f c.max-greatest.result c.loop-kind.invariant.reached (k ∙ c.frac.ensures) c.max-greatest.ensures.value;
     })
 

@@ -27,7 +27,9 @@ returns-in_err-total c =
     let f = to_z-of_z w16 c.args.frac c.ranges.frac in
     let x = get_or c.args.terms.now c.loop-subtracted.subtracted-index no_term in
     let s : IsSpan (least_term c.args.frac x) (greatest_term c.args.frac x) c.in_ok-term_span.field-0 = rw f at c.in_ok-term_span.ensures in
-    let inv : IsSpan (sum_of (least_term c.args.frac) (take c.loop-subtracted.subtracted-index c.args.terms.now)) (sum_of (greatest_term c.args.frac) (take c.loop-subtracted.subtracted-index c.args.terms.now)) c.loop-subtracted.total = rw f at c.loop-subtracted.invariant in
+    let inv : IsSpan (sum_of (least_term c.args.frac) (take c.loop-subtracted.subtracted-index c.args.terms.now))
+    (sum_of (greatest_term c.args.frac) (take c.loop-subtracted.subtracted-index c.args.terms.now))
+    c.loop-subtracted.total = rw f at c.loop-subtracted.invariant in
     refuses c.from_residual-in_err-total.result _ _ c.from_residual-in_err-total.ensures.0
     (λ fit. c.in_err-total.ensures (subst₂ (λ (a b : ℤ). FitSpan a b)
     (sym (ap₂ ◌+ℤ◌ inv.low s.low))
@@ -41,7 +43,9 @@ loop-subtracted-preserved c =
     let i = c.loop-subtracted.subtracted-index in
     let x = get_or c.args.terms.now i no_term in
     let s : IsSpan (least_term c.args.frac x) (greatest_term c.args.frac x) c.in_ok-term_span.field-0 = rw f at c.in_ok-term_span.ensures in
-    let inv : IsSpan (sum_of (least_term c.args.frac) (take c.loop-subtracted.subtracted-index c.args.terms.now)) (sum_of (greatest_term c.args.frac) (take c.loop-subtracted.subtracted-index c.args.terms.now)) c.loop-subtracted.total = rw f at c.loop-subtracted.invariant in
+    let inv : IsSpan (sum_of (least_term c.args.frac) (take c.loop-subtracted.subtracted-index c.args.terms.now))
+    (sum_of (greatest_term c.args.frac) (take c.loop-subtracted.subtracted-index c.args.terms.now))
+    c.loop-subtracted.total = rw f at c.loop-subtracted.invariant in
     rw f (record {
       low = c.in_ok-total.ensures.low ∙ ap₂ ◌+ℤ◌ inv.low s.low
           ∙ sym (sum_of-more (least_term c.args.frac) c.args.terms.now i no_term c.loop-subtracted-test.true);
@@ -63,5 +67,9 @@ term_span-requires-clause-greatest c = rw (to_z-of_z w16 c.args.frac c.ranges.fr
 pub returns : goal.returns
 returns c =
     let f = to_z-of_z w16 c.args.frac c.ranges.frac in
-    let inv : IsSpan (sum_of (least_term c.args.frac) (take c.loop-subtracted.subtracted-index c.args.terms.now)) (sum_of (greatest_term c.args.frac) (take c.loop-subtracted.subtracted-index c.args.terms.now)) c.loop-subtracted.total = rw f at c.loop-subtracted.invariant in
-    subst (λ (xs : Terms). IsSpan (sum_of (least_term c.args.frac) xs) (sum_of (greatest_term c.args.frac) xs) c.loop-subtracted.total) (take_all c.loop-subtracted.subtracted-index c.args.terms.now c.loop-subtracted-test.false) inv
+    let inv : IsSpan (sum_of (least_term c.args.frac) (take c.loop-subtracted.subtracted-index c.args.terms.now))
+    (sum_of (greatest_term c.args.frac) (take c.loop-subtracted.subtracted-index c.args.terms.now))
+    c.loop-subtracted.total = rw f at c.loop-subtracted.invariant in
+    subst (λ (xs : Terms). IsSpan (sum_of (least_term c.args.frac) xs)
+    (sum_of (greatest_term c.args.frac) xs) c.loop-subtracted.total)
+    (take_all c.loop-subtracted.subtracted-index c.args.terms.now c.loop-subtracted-test.false) inv

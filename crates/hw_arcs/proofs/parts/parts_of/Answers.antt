@@ -19,4 +19,6 @@ pub loop-done-preserved : goal.loop-done-preserved
 loop-done-preserved c = subst (λ (count : ℕ). IsSearch count c.step.new.self) c.loop-done.invariant.size c.in_ok-step.ensures
 
 pub returns : goal.returns
-returns c = whole_moved _ _ c.args.order.now (length c.args.rows.now) (IsPermutation-trans _ _ _ c.in_ok-sort_by_key.ensures.permutation c.in_ok-sort_by_key-2.ensures.permutation) c.in_ok-placed.ensures c.requires.whole
+returns c = whole_moved _ _ c.args.order.now (length c.args.rows.now)
+    (IsPermutation-trans _ _ _ c.in_ok-sort_by_key.ensures.permutation c.in_ok-sort_by_key-2.ensures.permutation)
+    c.in_ok-placed.ensures c.requires.whole

@@ -5,7 +5,8 @@ use Rattle.hw_arcs.proofs.ring.least_place.Goals.{then-block-blocks, else-block-
 use Rattle.hw_arcs.proofs.ring.least_place.Goals as goal
 
 -- what is no more than those before a place, and than the one there
-least_more : (blocks : List ℕ) (k least : ℕ) → ((j : ℕ) → j < k → get_or blocks least 0 ≤ get_or blocks j 0) → get_or blocks least 0 ≤ get_or blocks k 0 → (j : ℕ) → j < k + 1 → get_or blocks least 0 ≤ get_or blocks j 0
+least_more : (blocks : List ℕ) (k least : ℕ) → ((j : ℕ) → j < k → get_or blocks least 0 ≤ get_or blocks j 0)
+    → get_or blocks least 0 ≤ get_or blocks k 0 → (j : ℕ) → j < k + 1 → get_or blocks least 0 ≤ get_or blocks j 0
 least_more blocks k least before last j below =
     ⊎_elim
     (λ (less : j < k). before j less)
@@ -18,7 +19,9 @@ loop-k-preserved c =
       | then-block-blocks w ↦
           rw w.place-is (record {
             there = c.loop-k-test.true;
-            least = least_more c.args.blocks.now c.loop-k.k c.loop-k.k (λ j less. let now = c.loop-k.invariant.least j less in let lower = w.if-block-blocks.true in omega (arith, now, lower)) (omega arith);
+            least = least_more c.args.blocks.now c.loop-k.k c.loop-k.k
+                (λ j less. let now = c.loop-k.invariant.least j less in let lower =
+                w.if-block-blocks.true in omega (arith, now, lower)) (omega arith);
           })
       | else-block-blocks w ↦
           rw w.place-is (record {

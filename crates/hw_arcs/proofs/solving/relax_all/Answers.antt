@@ -17,7 +17,9 @@ settled_end arcs before limit block old new step is = subst (λ (told : Step). I
 above_end : (arcs : List Arc) (before limit block : ℕ) (old new : State) (step : Step) → step ≡ Above block → IsStepEnd arcs before limit old new step → IsAbove limit new block before
 above_end arcs before limit block old new step is = subst (λ (told : Step). IsStepEnd arcs before limit old new told) is
 
-goes_on : (arcs : List Arc) (count before limit block : ℕ) (old new : State) → before ≡ count → length new.lat ≡ before → IsState arcs before new → IsStepOn arcs before limit old new block → IsRelaxing arcs count limit new
+goes_on : (arcs : List Arc) (count before limit block : ℕ) (old new : State) → before ≡ count
+    → length new.lat ≡ before → IsState arcs before new → IsStepOn arcs before limit old new block
+    → IsRelaxing arcs count limit new
 goes_on arcs count before limit block old new first size state end = record {
   size = size ∙ first;
   state = subst (λ (n : ℕ). IsState arcs n new) first state;
@@ -25,7 +27,9 @@ goes_on arcs count before limit block old new first size state end = record {
   settled = end.settled;
 }
 
-goes_back : (arcs : List Arc) (count before block : ℕ) (new : State) → before ≡ count → length new.lat ≡ before → AreKnown arcs count → count ≤ most_joined_blocks → IsState arcs before new → block < before → CanGoBack arcs new block
+goes_back : (arcs : List Arc) (count before block : ℕ) (new : State) → before ≡ count → length new.lat ≡ before
+    → AreKnown arcs count → count ≤ most_joined_blocks → IsState arcs before new → block < before
+    → CanGoBack arcs new block
 goes_back arcs count before block new first size known few state there = record {
   known = subst (λ (n : ℕ). AreKnown arcs n) (sym (size ∙ first)) known;
   few = omega (arith, size, first, few);
@@ -57,27 +61,49 @@ step-requires c =
 
 pub cycle_behind-requires : goal.cycle_behind-requires
 cycle_behind-requires c =
-    goes_back c.args.arcs.now _ (length c.relax.state.lat.items) c.in-Above.block (seen c.step.new.self) c.relax.invariant.size c.in_ok-step.ensures.size c.requires.known c.requires.few c.in_ok-step.ensures.state (above_end c.args.arcs.now (length c.relax.state.lat.items) (length c.args.rows.now * most_gain) c.in-Above.block (seen c.relax.state) (seen c.step.new.self) _ c.in-Above.is c.in_ok-step.ensures.end).there
+    goes_back c.args.arcs.now _ (length c.relax.state.lat.items) c.in-Above.block
+    (seen c.step.new.self) c.relax.invariant.size c.in_ok-step.ensures.size c.requires.known c.requires.few
+    c.in_ok-step.ensures.state (above_end c.args.arcs.now (length c.relax.state.lat.items)
+    (length c.args.rows.now * most_gain) c.in-Above.block (seen c.relax.state)
+    (seen c.step.new.self) _ c.in-Above.is c.in_ok-step.ensures.end).there
 
 pub cycle_behind-requires-else-left-gt0 : goal.cycle_behind-requires-else-left-gt0
 cycle_behind-requires-else-left-gt0 c =
-    goes_back c.args.arcs.now _ (length c.relax.state.lat.items) c.in-Settled.block (seen c.step.new.self) c.relax.invariant.size c.in_ok-step.ensures.size c.requires.known c.requires.few c.in_ok-step.ensures.state (settled_end c.args.arcs.now (length c.relax.state.lat.items) (length c.args.rows.now * most_gain) c.in-Settled.block (seen c.relax.state) (seen c.step.new.self) _ c.in-Settled.is c.in_ok-step.ensures.end).there
+    goes_back c.args.arcs.now _ (length c.relax.state.lat.items) c.in-Settled.block
+    (seen c.step.new.self) c.relax.invariant.size c.in_ok-step.ensures.size c.requires.known c.requires.few
+    c.in_ok-step.ensures.state (settled_end c.args.arcs.now (length c.relax.state.lat.items)
+    (length c.args.rows.now * most_gain) c.in-Settled.block (seen c.relax.state)
+    (seen c.step.new.self) _ c.in-Settled.is c.in_ok-step.ensures.end).there
 
 pub relax-preserved : goal.relax-preserved
 relax-preserved c =
-    goes_on c.args.arcs.now _ (length c.relax.state.lat.items) (length c.args.rows.now * most_gain) c.in-Settled.block (seen c.relax.state) (seen c.step.new.self) c.relax.invariant.size c.in_ok-step.ensures.size c.in_ok-step.ensures.state (settled_end c.args.arcs.now (length c.relax.state.lat.items) (length c.args.rows.now * most_gain) c.in-Settled.block (seen c.relax.state) (seen c.step.new.self) _ c.in-Settled.is c.in_ok-step.ensures.end)
+    goes_on c.args.arcs.now _ (length c.relax.state.lat.items)
+    (length c.args.rows.now * most_gain) c.in-Settled.block (seen c.relax.state)
+    (seen c.step.new.self) c.relax.invariant.size c.in_ok-step.ensures.size c.in_ok-step.ensures.state
+    (settled_end c.args.arcs.now (length c.relax.state.lat.items)
+    (length c.args.rows.now * most_gain) c.in-Settled.block (seen c.relax.state)
+    (seen c.step.new.self) _ c.in-Settled.is c.in_ok-step.ensures.end)
 
 pub relax-preserved-then-left-gt0 : goal.relax-preserved-then-left-gt0
 relax-preserved-then-left-gt0 c =
-    goes_on c.args.arcs.now _ (length c.relax.state.lat.items) (length c.args.rows.now * most_gain) c.in-Settled.block (seen c.relax.state) (seen c.step.new.self) c.relax.invariant.size c.in_ok-step.ensures.size c.in_ok-step.ensures.state (settled_end c.args.arcs.now (length c.relax.state.lat.items) (length c.args.rows.now * most_gain) c.in-Settled.block (seen c.relax.state) (seen c.step.new.self) _ c.in-Settled.is c.in_ok-step.ensures.end)
+    goes_on c.args.arcs.now _ (length c.relax.state.lat.items)
+    (length c.args.rows.now * most_gain) c.in-Settled.block (seen c.relax.state)
+    (seen c.step.new.self) c.relax.invariant.size c.in_ok-step.ensures.size c.in_ok-step.ensures.state
+    (settled_end c.args.arcs.now (length c.relax.state.lat.items)
+    (length c.args.rows.now * most_gain) c.in-Settled.block (seen c.relax.state)
+    (seen c.step.new.self) _ c.in-Settled.is c.in_ok-step.ensures.end)
 
 pub relax-smaller : goal.relax-smaller
 relax-smaller c =
-    (settled_end c.args.arcs.now (length c.relax.state.lat.items) (length c.args.rows.now * most_gain) c.in-Settled.block (seen c.relax.state) (seen c.step.new.self) _ c.in-Settled.is c.in_ok-step.ensures.end).work
+    (settled_end c.args.arcs.now (length c.relax.state.lat.items)
+    (length c.args.rows.now * most_gain) c.in-Settled.block (seen c.relax.state)
+    (seen c.step.new.self) _ c.in-Settled.is c.in_ok-step.ensures.end).work
 
 pub relax-smaller-then-left-gt0 : goal.relax-smaller-then-left-gt0
 relax-smaller-then-left-gt0 c =
-    (settled_end c.args.arcs.now (length c.relax.state.lat.items) (length c.args.rows.now * most_gain) c.in-Settled.block (seen c.relax.state) (seen c.step.new.self) _ c.in-Settled.is c.in_ok-step.ensures.end).work
+    (settled_end c.args.arcs.now (length c.relax.state.lat.items)
+    (length c.args.rows.now * most_gain) c.in-Settled.block (seen c.relax.state)
+    (seen c.step.new.self) _ c.in-Settled.is c.in_ok-step.ensures.end).work
 
 pub returns-in-Done : goal.returns-in-Done
 returns-in-Done c =
@@ -96,7 +122,9 @@ returns-in-Some c = record {
 
 pub returns-in-Above : goal.returns-in-Above
 returns-in-Above c =
-    let end = above_end c.args.arcs.now (length c.relax.state.lat.items) (length c.args.rows.now * most_gain) c.in-Above.block (seen c.relax.state) (seen c.step.new.self) _ c.in-Above.is c.in_ok-step.ensures.end in
+    let end = above_end c.args.arcs.now (length c.relax.state.lat.items)
+    (length c.args.rows.now * most_gain) c.in-Above.block (seen c.relax.state)
+    (seen c.step.new.self) _ c.in-Above.is c.in_ok-step.ensures.end in
     let size = c.in_ok-step.ensures.size in
     let first = c.relax.invariant.size in
     let rows = c.requires.rows.size in

@@ -8,7 +8,9 @@ pub loop-element-preserved : goal.loop-element-preserved
 loop-element-preserved c =
     let one : Ask = record { hub = c.args.first + c.loop-element.element; want = None } in
     let grown : c.push.new.self.items ≡ c.loop-element.asks.list.items ++ one ∷ [] = c.in_ok-push.ensures.items in
-    asks_more c.args.asks.now.list.items c.loop-element.asks.list.items c.push.new.self.items c.args.asks.now.wants.items c.loop-element.asks.wants.items c.loop-element.asks.wants.items (hub_from c.args.first) unasked c.loop-element.element c.loop-element.invariant
+    asks_more c.args.asks.now.list.items c.loop-element.asks.list.items c.push.new.self.items
+    c.args.asks.now.wants.items c.loop-element.asks.wants.items c.loop-element.asks.wants.items
+    (hub_from c.args.first) unasked c.loop-element.element c.loop-element.invariant
     (asks_now c.loop-element.asks.list.items c.push.new.self.items c.loop-element.asks.wants.items (c.args.first + c.loop-element.element) grown)
 
 pub overflow_add-first : goal.overflow_add-first
@@ -17,4 +19,5 @@ overflow_add-first c = omega (arith, c.requires, c.loop-element-test.true)
 pub returns : goal.returns
 returns c =
     let all : c.loop-element.element ≡ c.args.width = omega (arith, c.loop-element-test.false, c.loop-element.auto.element-end) in
-    subst (λ (n : ℕ). AsksAll c.args.asks.now.list.items c.loop-element.asks.list.items c.args.asks.now.wants.items c.loop-element.asks.wants.items (hub_from c.args.first) unasked n) all c.loop-element.invariant
+    subst (λ (n : ℕ). AsksAll c.args.asks.now.list.items c.loop-element.asks.list.items c.args.asks.now.wants.items
+    c.loop-element.asks.wants.items (hub_from c.args.first) unasked n) all c.loop-element.invariant

@@ -11,5 +11,8 @@ loop-port-preserved c =
     let last = sum_last (shown_width diagram (attributes_of diagram) c.args.one.now.kind c.args.block) c.loop-port.port in
     let width = c.shown_width-width.ensures in
     let next = c.in-Some.ensures in
-    let total = c.loop-port.invariant.1 in
-    (begins_more diagram c.args.block c.args.one.now c.loop-port.port c.loop-port.total c.loop-port.begins c.push.new.self total c.in_ok-push.ensures.appended c.loop-port.invariant.0, omega (arith, last, width, next, total))
+    let total = c.loop-port.invariant.1 in (
+      begins_more diagram c.args.block c.args.one.now c.loop-port.port c.loop-port.total c.loop-port.begins
+          c.push.new.self total c.in_ok-push.ensures.appended c.loop-port.invariant.0,
+      omega (arith, last, width, next, total),
+    )

@@ -8,7 +8,9 @@ pub loop-left-preserved : goal.loop-left-preserved
 loop-left-preserved c =
     let port : c.args.port - 1 + 1 ≡ c.args.port = let from = c.requires.from in omega (arith, from) in
     let below : c.args.port - 1 < c.args.owner.one.now.inputs = let from = c.requires.from in let to = c.requires.to in omega (arith, from, to) in
-    parts_more c.args.owner.setting c.args.owner.block c.args.owner.one.now c.requires.kind.0 c.requires.kind.1 (c.args.port - 1) c.loop-left.left c.width_at-width.result c.at.result c.loop-left.parts c.push.new.self below
+    parts_more c.args.owner.setting c.args.owner.block c.args.owner.one.now c.requires.kind.0 c.requires.kind.1
+    (c.args.port - 1) c.loop-left.left c.width_at-width.result c.at.result c.loop-left.parts c.push.new.self
+    below
     (c.width_at-width.ensures ∙ ap (widths c.args.owner.setting c.args.owner.block c.args.owner.one.now) (sym port)) c.loop-left-test.true
     (c.at.ensures ∙ ap (λ (p : ℕ). offered_at c.args.owner.setting.design.checked.now.diagram c.args.owner.setting.operands.now c.args.owner.block p c.loop-left.left) (sym port))
     c.in_ok-push.ensures.appended c.loop-left.invariant

@@ -10,7 +10,9 @@ pub loop-input-preserved : goal.loop-input-preserved
 loop-input-preserved c =
     let f = type_into c.args.checked.now.diagram (attributes_of c.args.checked.now.diagram) c.args.block in
     rw c.in_ok-push.ensures.items
-    (ap (λ (xs : List FxType). xs ++ c.type_into.result ∷ []) c.loop-input.invariant ∙ ap (λ (t : FxType). map f (numbers_from 1 c.loop-input.input) ++ t ∷ []) c.type_into.ensures ∙ sym (map_last f c.loop-input.input))
+    (ap (λ (xs : List FxType). xs ++ c.type_into.result ∷ []) c.loop-input.invariant
+    ∙ ap (λ (t : FxType). map f (numbers_from 1 c.loop-input.input) ++ t ∷ []) c.type_into.ensures
+    ∙ sym (map_last f c.loop-input.input))
 
 pub loop-input-init : goal.loop-input-init
 loop-input-init c = c.requires.none

@@ -5,7 +5,9 @@ use Rattle.hw_build.proofs.blocks.put_block.Goals as goal
 
 pub returns-then-is_input : goal.returns-then-is_input
 returns-then-is_input c =
-    subst (λ (n : ℕ). Reaches c.args.owner.setting c.args.net.now n) (block_skipped c.args.owner.setting.design.checked.now.diagram c.args.owner.block c.args.owner.one.now c.requires.is (sym c.is_input.ensures ∙ c.if-is_input.true)) c.requires.before
+    subst (λ (n : ℕ). Reaches c.args.owner.setting c.args.net.now n)
+    (block_skipped c.args.owner.setting.design.checked.now.diagram c.args.owner.block c.args.owner.one.now
+    c.requires.is (sym c.is_input.ensures ∙ c.if-is_input.true)) c.requires.before
 
 pub put_ports-put-requires-clause-other : goal.put_ports-put-requires-clause-other
 put_ports-put-requires-clause-other c = sym c.is_input.ensures ∙ c.if-is_input.false

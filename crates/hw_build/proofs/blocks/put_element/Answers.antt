@@ -36,10 +36,15 @@ pub connect-requires : goal.connect-requires
 connect-requires c =
     let hub : c.hub_at-hub.result ≡ length c.requires.before.spots.entries = c.hub_at-hub.ensures ∙ sym c.requires.before.at in
     subst (λ (k : ℕ). IsResize c.put_pipeline.new.net.nets k) (sym hub)
-    (resize_kept c.args.element.setting.design.checked.now.diagram (timing_for c.args.element.setting.design) c.put_one.new.net c.put_pipeline.new.net c.args.element.place.block c.args.element.place.element c.in_ok-entry.entry.net (length c.requires.before.spots.entries) c.in_ok-piped.piped
+    (resize_kept c.args.element.setting.design.checked.now.diagram
+    (timing_for c.args.element.setting.design) c.put_one.new.net c.put_pipeline.new.net
+    c.args.element.place.block c.args.element.place.element c.in_ok-entry.entry.net
+    (length c.requires.before.spots.entries) c.in_ok-piped.piped
     (λ p is. c.periods_are_above.ensures.above c.args.element.setting.design.checked.now.diagram c.args.element.place.block p c.requires.set.designed.scheduled.checked is) c.in_ok-piped.ensures
     (element_waits c.args.element.setting c.setting_is_known.ensures.listed c.setting_is_known.ensures.valid c.periods_are_above.ensures.above c.setting_is_known.ensures.ordered c.requires.set
-    c.args.element.place.block c.args.element.one.now c.args.element.place.port c.args.element.place.element c.requires.hand.shown c.args.net.now c.put_one.new.net c.in_ok-entry.entry c.requires.before c.in_ok-entry.ensures))
+    c.args.element.place.block c.args.element.one.now c.args.element.place.port c.args.element.place.element
+    c.requires.hand.shown c.args.net.now c.put_one.new.net c.in_ok-entry.entry c.requires.before
+    c.in_ok-entry.ensures))
 
 pub returns : goal.returns
 returns c =
@@ -47,8 +52,19 @@ returns c =
     let small_element : c.args.element.place.element < 2 ^ 64 = search rules in
     let hub : c.hub_at-hub.result ≡ length c.requires.before.spots.entries = c.hub_at-hub.ensures ∙ sym c.requires.before.at in
     on_ok_weaker c.name_product.result
-    (λ named. element_reached c.args.element.setting c.setting_is_known.ensures.listed c.setting_is_known.ensures.valid c.periods_are_above.ensures.above c.setting_is_known.ensures.ordered c.requires.set
-    c.args.element.place.block c.args.element.one.now c.args.element.place.port c.args.element.place.element c.requires.hand.shown c.requires.hand.other c.args.net.now c.put_one.new.net c.connect.new.self c.name_product.new.net c.in_ok-entry.entry c.requires.before c.in_ok-entry.ensures
-    (record { piped = c.in_ok-piped.piped; middle = c.put_pipeline.new.net; put = c.in_ok-piped.ensures; connected = subst (λ (k : ℕ). IsConnected c.put_pipeline.new.net c.connect.new.self k c.in_ok-piped.piped.end) hub c.in_ok-connect.ensures.connected })
+    (λ named. element_reached c.args.element.setting c.setting_is_known.ensures.listed
+    c.setting_is_known.ensures.valid c.periods_are_above.ensures.above c.setting_is_known.ensures.ordered
+    c.requires.set
+    c.args.element.place.block c.args.element.one.now c.args.element.place.port c.args.element.place.element
+    c.requires.hand.shown c.requires.hand.other c.args.net.now c.put_one.new.net c.connect.new.self
+    c.name_product.new.net c.in_ok-entry.entry c.requires.before c.in_ok-entry.ensures
+    (record {
+      piped = c.in_ok-piped.piped;
+      middle = c.put_pipeline.new.net;
+      put = c.in_ok-piped.ensures;
+      connected =
+          subst (λ (k : ℕ). IsConnected c.put_pipeline.new.net c.connect.new.self k c.in_ok-piped.piped.end) hub
+          c.in_ok-connect.ensures.connected;
+    })
     named small_block small_element)
     c.name_product.ensures

@@ -15,7 +15,9 @@ loop-block-init c =
 
 pub overflow_cast-owner : goal.overflow_cast-owner
 overflow_cast-owner c =
-    let blocks : length c.as_slice-blocks.result.now ≡ length c.args.setting.design.checked.now.diagram.blocks = ap (λ (bs : List Block). length bs) (c.as_slice-blocks.ensures ∙ ap (λ (d : Diagram). d.blocks) c.diagram.ensures) in
+    let blocks : length c.as_slice-blocks.result.now ≡ length c.args.setting.design.checked.now.diagram.blocks =
+    ap (λ (bs : List Block). length bs)
+    (c.as_slice-blocks.ensures ∙ ap (λ (d : Diagram). d.blocks) c.diagram.ensures) in
     record { fits = omega (arith, blocks, c.loop-block-test.true, c.requires.set.designed.scheduled.checked.wired.size) }
 
 pub put_block-requires-clause-is : goal.put_block-requires-clause-is
@@ -37,7 +39,9 @@ pub returns : goal.returns
 returns c =
     let low = c.loop-block-test.false in
     let high = c.loop-block.auto.block-end in
-    let blocks : length c.as_slice-blocks.result.now ≡ length c.args.setting.design.checked.now.diagram.blocks = ap (λ (bs : List Block). length bs) (c.as_slice-blocks.ensures ∙ ap (λ (d : Diagram). d.blocks) c.diagram.ensures) in
+    let blocks : length c.as_slice-blocks.result.now ≡ length c.args.setting.design.checked.now.diagram.blocks =
+    ap (λ (bs : List Block). length bs)
+    (c.as_slice-blocks.ensures ∙ ap (λ (d : Diagram). d.blocks) c.diagram.ensures) in
     let all : c.loop-block.block ≡ length c.args.setting.design.checked.now.diagram.blocks = omega (arith, low, high, blocks) in
     let reached = subst (λ (n : ℕ). Reaches c.args.setting c.loop-block.net (hub_start c.args.setting.design.checked.now.diagram n)) all c.loop-block.invariant in
     (reached.spots, all_stand c.args.setting c.setting_is_known.ensures.listed c.setting_is_known.ensures.ordered c.requires.set c.loop-block.net reached)

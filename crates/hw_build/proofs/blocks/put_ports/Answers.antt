@@ -7,7 +7,9 @@ use Rattle.hw_build.proofs.blocks.put_ports.Goals as goal
 
 pub loop-port-init : goal.loop-port-init
 loop-port-init c =
-    let same : hub_start c.args.owner.setting.design.checked.now.diagram c.args.owner.block ≡ port_start c.args.owner.setting.design.checked.now.diagram c.args.owner.block c.args.owner.one.now 0 = omega arith in
+    let same : hub_start c.args.owner.setting.design.checked.now.diagram c.args.owner.block
+    ≡ port_start c.args.owner.setting.design.checked.now.diagram c.args.owner.block c.args.owner.one.now 0 =
+    omega arith in
     subst (λ (n : ℕ). Reaches c.args.owner.setting c.args.net.now n) same c.requires.before
 
 pub put_port-requires-clause-before : goal.put_port-requires-clause-before
@@ -30,7 +32,9 @@ pub returns : goal.returns
 returns c =
     let done : c.loop-port.port ≡ c.shown_ports-port-end.result = omega (arith, c.loop-port-test.false, c.loop-port.auto.port-end) in
     let wide : c.loop-port.port ≡ shown_ports c.args.owner.one.now.kind c.args.owner.one.now.outputs = done ∙ c.shown_ports-port-end.ensures in
-    subst (λ (n : ℕ). Reaches c.args.owner.setting c.loop-port.net n) (block_ends c.args.owner.setting.design.checked.now.diagram c.args.owner.block c.args.owner.one.now c.requires.is c.requires.other)
+    subst (λ (n : ℕ). Reaches c.args.owner.setting c.loop-port.net n)
+    (block_ends c.args.owner.setting.design.checked.now.diagram c.args.owner.block c.args.owner.one.now
+    c.requires.is c.requires.other)
     (subst (λ (n : ℕ). Reaches c.args.owner.setting c.loop-port.net (port_start c.args.owner.setting.design.checked.now.diagram c.args.owner.block c.args.owner.one.now n)) wide c.loop-port.invariant)
 
 pub put_inputs-requires-clause-is : goal.put_inputs-requires-clause-is

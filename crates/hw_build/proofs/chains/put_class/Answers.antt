@@ -13,7 +13,10 @@ first_is : (first : Option ℤ) → unwrap_or first (pos 0) ≡ first_of first
 first_is None = refl
 first_is (Some first) = refl
 
-class_answered : {E : Type 0} (result : Result (List ℕ) E) (before after : Circuit) (one : Class) → IfOk result (AreAnswers before after (source_by one.feed) one.uses.items) → OnOk result (IsChained before after (source_by one.feed) one.uses.items) → IfOk result (IsClassAnswered before after one)
+class_answered : {E : Type 0} (result : Result (List ℕ) E) (before after : Circuit) (one : Class)
+    → IfOk result (AreAnswers before after (source_by one.feed) one.uses.items)
+    → OnOk result (IsChained before after (source_by one.feed) one.uses.items)
+    → IfOk result (IsClassAnswered before after one)
 class_answered (Ok numbers) before after one answers chained = record { answers = answers; chained = chained }
 class_answered (Err e) before after one answers chained = tt
 
@@ -24,7 +27,11 @@ pub chain-requires-clause-high : goal.chain-requires-clause-high
 chain-requires-clause-high c = c.requires.high
 
 pub chain-requires-clause-source : goal.chain-requires-clause-source
-chain-requires-clause-source c = rw (to_z-of_z w128 c.unwrap_or.result (record { sfits = c.unwrap_or.type_inv }), c.unwrap_or.ensures ∙ first_is c.args.class.now.feed.first, c.is_some.ensures) c.requires.class.source
+chain-requires-clause-source c = rw (
+  to_z-of_z w128 c.unwrap_or.result (record { sfits = c.unwrap_or.type_inv }),
+  c.unwrap_or.ensures ∙ first_is c.args.class.now.feed.first,
+  c.is_some.ensures,
+) c.requires.class.source
 
 pub chain-requires-clause-uses : goal.chain-requires-clause-uses
 chain-requires-clause-uses c =

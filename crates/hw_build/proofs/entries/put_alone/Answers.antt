@@ -12,10 +12,16 @@ offered_entry-requires-clause-hands c =
     elim c.in-Inport.is [
       | inl here ↦ ap (hands_on c.args.site.one.now.enable (period_into c.args.site.design.checked.now.diagram (attributes_of c.args.site.design.checked.now.diagram) c.args.site.place.block 1)) here.2
       | inr more ↦ elim more [
-        | inl here ↦ ap (hands_on c.args.site.one.now.enable (period_into c.args.site.design.checked.now.diagram (attributes_of c.args.site.design.checked.now.diagram) c.args.site.place.block 1)) here.1
+        | inl here ↦ ap (hands_on c.args.site.one.now.enable
+            (period_into c.args.site.design.checked.now.diagram
+            (attributes_of c.args.site.design.checked.now.diagram) c.args.site.place.block 1)) here.1
         | inr more ↦ elim more [
-          | inl here ↦ ap (hands_on c.args.site.one.now.enable (period_into c.args.site.design.checked.now.diagram (attributes_of c.args.site.design.checked.now.diagram) c.args.site.place.block 1)) here.1
-          | inr more ↦ ap (hands_on c.args.site.one.now.enable (period_into c.args.site.design.checked.now.diagram (attributes_of c.args.site.design.checked.now.diagram) c.args.site.place.block 1)) more.2
+          | inl here ↦ ap (hands_on c.args.site.one.now.enable
+              (period_into c.args.site.design.checked.now.diagram
+              (attributes_of c.args.site.design.checked.now.diagram) c.args.site.place.block 1)) here.1
+          | inr more ↦ ap (hands_on c.args.site.one.now.enable
+              (period_into c.args.site.design.checked.now.diagram
+              (attributes_of c.args.site.design.checked.now.diagram) c.args.site.place.block 1)) more.2
         ]
       ]
     ]
@@ -48,7 +54,10 @@ pub put_delay-requires-clause-operands : goal.put_delay-requires-clause-operands
 put_delay-requires-clause-operands c = c.requires.ready.operands_are
 
 pub put_delay-requires-clause-kind : goal.put_delay-requires-clause-kind
-put_delay-requires-clause-kind c = c.in-Delay.is ∙ ap (λ (list : List Decimal). Delay c.in-Delay.length list c.in-Delay.reset) (list_is c.args.site.one.now.kind (Delay c.in-Delay.length c.in-Delay.initial c.in-Delay.reset) c.list_of-list.result.now c.list_of-list.ensures c.in-Delay.is)
+put_delay-requires-clause-kind c = c.in-Delay.is
+    ∙ ap (λ (list : List Decimal). Delay c.in-Delay.length list c.in-Delay.reset)
+    (list_is c.args.site.one.now.kind (Delay c.in-Delay.length c.in-Delay.initial c.in-Delay.reset)
+    c.list_of-list.result.now c.list_of-list.ensures c.in-Delay.is)
 
 pub pass_out-requires-clause-can : goal.pass_out-requires-clause-can
 pass_out-requires-clause-can c = c.requires.can
@@ -57,4 +66,6 @@ pub pass_out-requires-clause-operands : goal.pass_out-requires-clause-operands
 pass_out-requires-clause-operands c = c.requires.ready.operands_are
 
 pub pass_out-requires-clause-kind : goal.pass_out-requires-clause-kind
-pass_out-requires-clause-kind c = c.in-EnOut.is ∙ ap (EnOut c.in-EnOut.reset) (list_is c.args.site.one.now.kind (EnOut c.in-EnOut.reset c.in-EnOut.initial) c.list_of-list.result.now c.list_of-list.ensures c.in-EnOut.is)
+pass_out-requires-clause-kind c = c.in-EnOut.is
+    ∙ ap (EnOut c.in-EnOut.reset) (list_is c.args.site.one.now.kind
+    (EnOut c.in-EnOut.reset c.in-EnOut.initial) c.list_of-list.result.now c.list_of-list.ensures c.in-EnOut.is)

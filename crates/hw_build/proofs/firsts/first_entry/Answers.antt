@@ -14,7 +14,13 @@ use Rattle.hw_build.proofs.firsts.first_entry.Goals as goal
 
 pub stored_entry-requires : goal.stored_entry-requires
 stored_entry-requires c =
-    subst IsType (sym (c.result.ensures 1)) (c.operations_prepare.ensures.types c.args.checked.now.diagram c.args.checked.now.order c.args.block c.args.one.now (record { checked = c.keeps_rules.ensures.checked; ordered = c.keeps_rules.ensures.ordered }) c.requires).0
+    subst IsType (sym (c.result.ensures 1))
+    (c.operations_prepare.ensures.types c.args.checked.now.diagram c.args.checked.now.order c.args.block
+    c.args.one.now (record {
+      checked = c.keeps_rules.ensures.checked;
+      ordered =
+          c.keeps_rules.ensures.ordered;
+    }) c.requires).0
 
 pub returns : goal.returns
 returns c =

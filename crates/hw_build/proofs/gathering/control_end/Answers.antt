@@ -7,10 +7,15 @@ use Rattle.std.proofs.lemmas.Result.{on_ok_weaker}
 use Rattle.hw_build.proofs.gathering.control_end.Goals as goal
 
 pub at-hub-requires-clause-there : goal.at-hub-requires-clause-there
-at-hub-requires-clause-there c = control_there c.ends_are_lawful.ensures c.args.block c.in-Some.control c.block_at.result.now c.block_at.ensures (control_feeds c.args.ends.design.checked.now.diagram c.args.block c.block_at.result.now c.in-Some.control (sym c.control_of.ensures ∙ c.in-Some.is))
+at-hub-requires-clause-there c = control_there c.ends_are_lawful.ensures c.args.block c.in-Some.control
+    c.block_at.result.now c.block_at.ensures
+    (control_feeds c.args.ends.design.checked.now.diagram c.args.block c.block_at.result.now c.in-Some.control
+    (sym c.control_of.ensures ∙ c.in-Some.is))
 
 pub period-requires : goal.period-requires
-period-requires c = control_inside c.ends_are_lawful.ensures c.args.block c.in-Some.control c.block_at.result.now c.block_at.ensures (control_feeds c.args.ends.design.checked.now.diagram c.args.block c.block_at.result.now c.in-Some.control (sym c.control_of.ensures ∙ c.in-Some.is))
+period-requires c = control_inside c.ends_are_lawful.ensures c.args.block c.in-Some.control c.block_at.result.now
+    c.block_at.ensures (control_feeds c.args.ends.design.checked.now.diagram c.args.block c.block_at.result.now
+    c.in-Some.control (sym c.control_of.ensures ∙ c.in-Some.is))
 
 pub returns-in_default-period : goal.returns-in_default-period
 returns-in_default-period c =
@@ -18,12 +23,17 @@ returns-in_default-period c =
     let feeds = control_feeds c.args.ends.design.checked.now.diagram c.args.block c.block_at.result.now c.in-Some.control is in
     on_ok_weaker c.ask_signal.result
     (λ put. control_put c.ends_are_lawful.ensures c.args.block c.block_at.result.now c.block_at.ensures c.args.asks.now c.ask_signal.new.asks (Some c.in-Some.control) is
-    (still_control c.ends_are_lawful.ensures c.args.block c.in-Some.control c.block_at.result.now c.block_at.ensures feeds c.args.asks.now.list.items c.ask_signal.new.asks.list.items c.args.asks.now.wants.items c.ask_signal.new.asks.wants.items c.at-hub.result
+    (still_control c.ends_are_lawful.ensures c.args.block c.in-Some.control c.block_at.result.now c.block_at.ensures
+    feeds c.args.asks.now.list.items c.ask_signal.new.asks.list.items c.args.asks.now.wants.items
+    c.ask_signal.new.asks.wants.items c.at-hub.result
     (sym c.period.ensures ∙ c.in_default-period.is) c.at-hub.ensures put))
     c.ask_signal.ensures
 
 pub frame_after-frame-requires-clause-there : goal.frame_after-frame-requires-clause-there
-frame_after-frame-requires-clause-there c = control_inside c.ends_are_lawful.ensures c.args.block c.in-Some.control c.block_at.result.now c.block_at.ensures (control_feeds c.args.ends.design.checked.now.diagram c.args.block c.block_at.result.now c.in-Some.control (sym c.control_of.ensures ∙ c.in-Some.is))
+frame_after-frame-requires-clause-there c =
+    control_inside c.ends_are_lawful.ensures c.args.block c.in-Some.control c.block_at.result.now c.block_at.ensures
+    (control_feeds c.args.ends.design.checked.now.diagram c.args.block c.block_at.result.now c.in-Some.control
+    (sym c.control_of.ensures ∙ c.in-Some.is))
 
 pub overflow_sub-to : goal.overflow_sub-to
 overflow_sub-to c =
@@ -36,10 +46,14 @@ returns c =
     let is : control_ever c.block_at.result.now ≡ Some c.in-Some.control = sym c.control_of.ensures ∙ c.in-Some.is in
     let feeds = control_feeds c.args.ends.design.checked.now.diagram c.args.block c.block_at.result.now c.in-Some.control is in
     let moves : (attributes_of c.args.ends.design.checked.now.diagram).period_at c.in-Some.control ≡ Some c.in-Some-period.period = sym c.period.ensures ∙ c.in-Some-period.is in
-    let own = control_period c.ends_are_lawful.ensures c.args.block c.in-Some.control c.block_at.result.now c.block_at.ensures feeds c.in-Some-period.period moves c.samples.result (c.samples.ensures ∙ ap samples c.period-2.ensures) in
+    let own = control_period c.ends_are_lawful.ensures c.args.block c.in-Some.control c.block_at.result.now
+    c.block_at.ensures feeds c.in-Some-period.period moves c.samples.result
+    (c.samples.ensures ∙ ap samples c.period-2.ensures) in
     on_ok_weaker c.ask_plain.result
     (λ put. control_put c.ends_are_lawful.ensures c.args.block c.block_at.result.now c.block_at.ensures c.args.asks.now c.ask_plain.new.asks (Some c.in-Some.control) is
-    (moving_control c.ends_are_lawful.ensures c.args.block c.in-Some.control c.block_at.result.now c.block_at.ensures feeds c.in-Some-period.period moves c.args.asks.now.list.items c.ask_plain.new.asks.list.items c.args.asks.now.wants.items c.ask_plain.new.asks.wants.items
+    (moving_control c.ends_are_lawful.ensures c.args.block c.in-Some.control c.block_at.result.now
+    c.block_at.ensures feeds c.in-Some-period.period moves c.args.asks.now.list.items
+    c.ask_plain.new.asks.list.items c.args.asks.now.wants.items c.ask_plain.new.asks.wants.items
     c.at-hub.result c.samples.result own c.at-hub.ensures put))
     (rw (c.frame_after-frame.ensures, c.as_slice.ensures) at c.ask_plain.ensures)
 

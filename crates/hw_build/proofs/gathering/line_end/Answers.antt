@@ -18,7 +18,8 @@ returns-then-shown_ports-eq0 c =
 
 pub at-first-requires-clause-there : goal.at-first-requires-clause-there
 at-first-requires-clause-there c =
-    hub_there c.ends_are_lawful.ensures c.requires.line.0 c.args.edge c.block_at-one.result.now c.requires.line.1 c.block_at-one.ensures (omega (arith, c.if-shown_ports-eq0.false, c.shown_ports.ensures))
+    hub_there c.ends_are_lawful.ensures c.requires.line.0 c.args.edge c.block_at-one.result.now c.requires.line.1
+    c.block_at-one.ensures (omega (arith, c.if-shown_ports-eq0.false, c.shown_ports.ensures))
 
 pub width-width-requires-clause-port : goal.width-width-requires-clause-port
 width-width-requires-clause-port c = (source_there c.args.ends.design.checked.now.diagram c.requires.can.designed.scheduled.checked c.requires.line.0 c.args.edge c.requires.line.1).0
@@ -31,13 +32,19 @@ period-requires c = from_there c.args.ends.design.checked.now.diagram c.requires
 
 pub ask_signal-requires : goal.ask_signal-requires
 ask_signal-requires c =
-    hubs_fit c.ends_are_lawful.ensures c.requires.line.0 c.args.edge c.block_at-one.result.now c.requires.line.1 c.block_at-one.ensures (omega (arith, c.if-shown_ports-eq0.false, c.shown_ports.ensures)) c.at-first.result c.width-width.result c.at-first.ensures c.width-width.ensures c.at-first.type_inv
+    hubs_fit c.ends_are_lawful.ensures c.requires.line.0 c.args.edge c.block_at-one.result.now c.requires.line.1
+    c.block_at-one.ensures (omega (arith, c.if-shown_ports-eq0.false, c.shown_ports.ensures)) c.at-first.result
+    c.width-width.result c.at-first.ensures c.width-width.ensures c.at-first.type_inv
 
 pub returns-in_default : goal.returns-in_default
 returns-in_default c =
     on_ok_weaker c.ask_signal.result
     (λ put. line_put c.ends_are_lawful.ensures c.args.edge c.block_at-one.result.now c.block_at-one.ensures c.args.asks.now c.ask_signal.new.asks
-    (still_line c.ends_are_lawful.ensures c.requires.line.0 c.args.edge c.block_at-one.result.now c.requires.line.1 c.block_at-one.ensures (omega (arith, c.if-shown_ports-eq0.false, c.shown_ports.ensures)) c.args.asks.now.list.items c.ask_signal.new.asks.list.items c.args.asks.now.wants.items c.ask_signal.new.asks.wants.items c.at-first.result c.width-width.result (sym c.period.ensures ∙ c.in_default.is) c.at-first.ensures c.width-width.ensures put))
+    (still_line c.ends_are_lawful.ensures c.requires.line.0 c.args.edge c.block_at-one.result.now c.requires.line.1
+    c.block_at-one.ensures (omega (arith, c.if-shown_ports-eq0.false, c.shown_ports.ensures))
+    c.args.asks.now.list.items c.ask_signal.new.asks.list.items c.args.asks.now.wants.items
+    c.ask_signal.new.asks.wants.items c.at-first.result c.width-width.result
+    (sym c.period.ensures ∙ c.in_default.is) c.at-first.ensures c.width-width.ensures put))
     c.ask_signal.ensures
 
 pub period-requires-2 : goal.period-requires-2
@@ -48,27 +55,54 @@ frame_after-frame-requires-clause-there c = from_there c.args.ends.design.checke
 
 pub line_use-to-requires-clause-behind : goal.line_use-to-requires-clause-behind
 line_use-to-requires-clause-behind c =
-    rw c.frame_after-frame.ensures (asked c.ends_are_lawful.ensures c.requires.line.0 c.args.edge c.block_at-one.result.now c.requires.line.1 c.block_at-one.ensures (omega (arith, c.if-shown_ports-eq0.false, c.shown_ports.ensures)) c.in-Some.period (sym c.period.ensures ∙ c.in-Some.is)).late
+    rw c.frame_after-frame.ensures (asked c.ends_are_lawful.ensures c.requires.line.0 c.args.edge
+    c.block_at-one.result.now c.requires.line.1 c.block_at-one.ensures
+    (omega (arith, c.if-shown_ports-eq0.false, c.shown_ports.ensures)) c.in-Some.period
+    (sym c.period.ensures ∙ c.in-Some.is)).late
 
 pub line_use-to-requires-clause-near : goal.line_use-to-requires-clause-near
 line_use-to-requires-clause-near c =
-    (asked c.ends_are_lawful.ensures c.requires.line.0 c.args.edge c.block_at-one.result.now c.requires.line.1 c.block_at-one.ensures (omega (arith, c.if-shown_ports-eq0.false, c.shown_ports.ensures)) c.in-Some.period (sym c.period.ensures ∙ c.in-Some.is)).near
+    (asked c.ends_are_lawful.ensures c.requires.line.0 c.args.edge c.block_at-one.result.now c.requires.line.1
+    c.block_at-one.ensures (omega (arith, c.if-shown_ports-eq0.false, c.shown_ports.ensures)) c.in-Some.period
+    (sym c.period.ensures ∙ c.in-Some.is)).near
 
 pub ask_late-requires-clause-fits : goal.ask_late-requires-clause-fits
 ask_late-requires-clause-fits c =
-    λ element below. late_fits c.ends_are_lawful.ensures c.requires.line.0 c.args.edge c.block_at-one.result.now c.requires.line.1 c.block_at-one.ensures (omega (arith, c.if-shown_ports-eq0.false, c.shown_ports.ensures)) c.in-Some.period c.samples-own.result c.at-first.result c.width-width.result element (sym c.period.ensures ∙ c.in-Some.is) (c.samples-own.ensures ∙ ap samples c.period-2.ensures) (sym c.is_registered.ensures ∙ c.if-is_registered.true) c.at-first.ensures c.width-width.ensures below
+    λ element below. late_fits c.ends_are_lawful.ensures c.requires.line.0 c.args.edge c.block_at-one.result.now
+    c.requires.line.1 c.block_at-one.ensures
+    (omega (arith, c.if-shown_ports-eq0.false, c.shown_ports.ensures)) c.in-Some.period c.samples-own.result
+    c.at-first.result c.width-width.result element (sym c.period.ensures ∙ c.in-Some.is)
+    (c.samples-own.ensures ∙ ap samples c.period-2.ensures)
+    (sym c.is_registered.ensures ∙ c.if-is_registered.true) c.at-first.ensures
+    c.width-width.ensures below
 
 pub ask_plain-requires : goal.ask_plain-requires
 ask_plain-requires c =
-    hubs_fit c.ends_are_lawful.ensures c.requires.line.0 c.args.edge c.block_at-one.result.now c.requires.line.1 c.block_at-one.ensures (omega (arith, c.if-shown_ports-eq0.false, c.shown_ports.ensures)) c.at-first.result c.width-width.result c.at-first.ensures c.width-width.ensures c.at-first.type_inv
+    hubs_fit c.ends_are_lawful.ensures c.requires.line.0 c.args.edge c.block_at-one.result.now c.requires.line.1
+    c.block_at-one.ensures (omega (arith, c.if-shown_ports-eq0.false, c.shown_ports.ensures)) c.at-first.result
+    c.width-width.result c.at-first.ensures c.width-width.ensures c.at-first.type_inv
 
 pub returns-then-is_registered : goal.returns-then-is_registered
 returns-then-is_registered c =
-    on_ok_weaker c.ask_late.result (λ put. late_end c.ends_are_lawful.ensures c.requires.line.0 c.args.edge c.block_at-one.result.now c.requires.line.1 c.block_at-one.ensures (omega (arith, c.if-shown_ports-eq0.false, c.shown_ports.ensures)) c.in-Some.period (sym c.period.ensures ∙ c.in-Some.is) c.samples-own.result c.at-first.result c.width-width.result c.args.asks.now c.ask_late.new.asks (c.samples-own.ensures ∙ ap samples c.period-2.ensures) (sym c.is_registered.ensures ∙ c.if-is_registered.true) c.at-first.ensures c.width-width.ensures put) (rw (c.line_use-to.ensures, c.frame_after-frame.ensures) at c.ask_late.ensures)
+    on_ok_weaker c.ask_late.result (λ put. late_end c.ends_are_lawful.ensures c.requires.line.0 c.args.edge
+    c.block_at-one.result.now c.requires.line.1 c.block_at-one.ensures
+    (omega (arith, c.if-shown_ports-eq0.false, c.shown_ports.ensures)) c.in-Some.period
+    (sym c.period.ensures ∙ c.in-Some.is) c.samples-own.result c.at-first.result c.width-width.result
+    c.args.asks.now c.ask_late.new.asks (c.samples-own.ensures ∙ ap samples c.period-2.ensures)
+    (sym c.is_registered.ensures ∙ c.if-is_registered.true) c.at-first.ensures
+    c.width-width.ensures put)
+    (rw (c.line_use-to.ensures, c.frame_after-frame.ensures) at c.ask_late.ensures)
 
 pub returns-else-is_registered : goal.returns-else-is_registered
 returns-else-is_registered c =
-    on_ok_weaker c.ask_plain.result (λ put. plain_end c.ends_are_lawful.ensures c.requires.line.0 c.args.edge c.block_at-one.result.now c.requires.line.1 c.block_at-one.ensures (omega (arith, c.if-shown_ports-eq0.false, c.shown_ports.ensures)) c.in-Some.period (sym c.period.ensures ∙ c.in-Some.is) c.samples-own.result c.at-first.result c.width-width.result c.args.asks.now c.ask_plain.new.asks (c.samples-own.ensures ∙ ap samples c.period-2.ensures) (sym c.is_registered.ensures ∙ c.if-is_registered.false) c.at-first.ensures c.width-width.ensures put) (rw (c.line_use-to.ensures, c.frame_after-frame.ensures) at c.ask_plain.ensures)
+    on_ok_weaker c.ask_plain.result (λ put. plain_end c.ends_are_lawful.ensures c.requires.line.0 c.args.edge
+    c.block_at-one.result.now c.requires.line.1 c.block_at-one.ensures
+    (omega (arith, c.if-shown_ports-eq0.false, c.shown_ports.ensures)) c.in-Some.period
+    (sym c.period.ensures ∙ c.in-Some.is) c.samples-own.result c.at-first.result c.width-width.result
+    c.args.asks.now c.ask_plain.new.asks (c.samples-own.ensures ∙ ap samples c.period-2.ensures)
+    (sym c.is_registered.ensures ∙ c.if-is_registered.false) c.at-first.ensures
+    c.width-width.ensures put)
+    (rw (c.line_use-to.ensures, c.frame_after-frame.ensures) at c.ask_plain.ensures)
 
 pub ends_are_lawful-requires : goal.ends_are_lawful-requires
 ends_are_lawful-requires c = c.requires.can

@@ -24,7 +24,9 @@ put_inputs-requires-clause-there c = inputs_there c.args.checked.now.diagram c.k
 pub columns_of-requires : goal.columns_of-requires
 columns_of-requires c =
     let blocks : c.as_slice.result.now ≡ c.args.checked.now.diagram.blocks = c.as_slice.ensures ∙ ap (λ (d : Diagram). d.blocks) c.diagram.ensures in
-    subst (λ (bs : List Block). All (λ block. block < length bs) c.args.inputs.now) (sym blocks) (inputs_there c.args.checked.now.diagram c.keeps_rules.ensures.checked c.root_elements_are_listed.ensures.inputs c.args.inputs.now c.requires.are)
+    subst (λ (bs : List Block). All (λ block. block < length bs) c.args.inputs.now) (sym blocks)
+    (inputs_there c.args.checked.now.diagram c.keeps_rules.ensures.checked
+    c.root_elements_are_listed.ensures.inputs c.args.inputs.now c.requires.are)
 
 pub returns-in-Ok : goal.returns-in-Ok
 returns-in-Ok c =
@@ -32,7 +34,9 @@ returns-in-Ok c =
     let least : AreColumnsFrom c.args.inputs.now columns 0 = subst (λ (cs : List ℕ). AreColumnsFrom c.args.inputs.now cs 0) (sym c.as_slice-2.ensures.value) c.in_ok-columns.ensures.least in
     IfOk-weaker c.of-widths.result _ _
     (λ widths are. subst (λ (fs : List (List ℕ)). HasHubs c.args.checked.now.diagram c.args.net.now c.put_blocks.new.net fs) (sym are)
-    (hubs_are c.args.checked.now.diagram c.keeps_rules.ensures.checked c.root_elements_are_listed.ensures.inputs c.args.net.now c.put_inputs.new.net c.put_blocks.new.net c.args.inputs.now columns c.put_blocks.new.firsts c.requires.are c.in_ok-put_inputs.ensures least c.in-Ok.ensures))
+    (hubs_are c.args.checked.now.diagram c.keeps_rules.ensures.checked c.root_elements_are_listed.ensures.inputs
+    c.args.net.now c.put_inputs.new.net c.put_blocks.new.net c.args.inputs.now columns c.put_blocks.new.firsts
+    c.requires.are c.in_ok-put_inputs.ensures least c.in-Ok.ensures))
     c.of-widths.ensures
 
 pub put_blocks-requires-clause-columns : goal.put_blocks-requires-clause-columns

@@ -17,7 +17,9 @@ loop-block-preserved c =
     let below : c.loop-block.block < length c.as_slice-blocks.result.now = omega (arith, c.loop-block-test.true, c.in-Ok.ensures.1) in
     let there = slice_get_read c.as_slice-blocks.result.now (length c.as_slice-blocks.result.now) c.loop-block.block one refl below c.index-blocks-block.is in
     let at : slice_get diagram.blocks c.loop-block.block ≡ Some one = subst (λ (bs : List Block). slice_get bs c.loop-block.block ≡ Some one) blocks there in
-    rw c.in_ok-push.ensures.appended (blocks_more diagram c.args.net.now c.loop-block.net c.put_block.new.net c.args.columns.now c.loop-block.firsts c.loop-block.block one c.put_block.new.firsts c.loop-block.invariant at c.in_ok-put_block.ensures)
+    rw c.in_ok-push.ensures.appended (blocks_more diagram c.args.net.now c.loop-block.net c.put_block.new.net
+    c.args.columns.now c.loop-block.firsts c.loop-block.block one c.put_block.new.firsts c.loop-block.invariant
+    at c.in_ok-put_block.ensures)
 
 pub put_block-requires-clause-is : goal.put_block-requires-clause-is
 put_block-requires-clause-is c =
@@ -33,6 +35,8 @@ put_block-requires-clause-none c = c.new-own.ensures
 
 pub returns : goal.returns
 returns c =
-    let blocks : length c.as_slice-blocks.result.now ≡ length c.args.checked.now.diagram.blocks = ap (λ (bs : List Block). length bs) (c.as_slice-blocks.ensures ∙ ap (λ (d : Diagram). d.blocks) c.diagram.ensures) in
+    let blocks : length c.as_slice-blocks.result.now ≡ length c.args.checked.now.diagram.blocks =
+    ap (λ (bs : List Block). length bs)
+    (c.as_slice-blocks.ensures ∙ ap (λ (d : Diagram). d.blocks) c.diagram.ensures) in
     let all : c.loop-block.block ≡ length c.args.checked.now.diagram.blocks = omega (arith, c.loop-block-test.false, c.loop-block.auto.block-end, c.in-Ok.ensures.1, blocks) in
     subst (λ (n : ℕ). AddsBlocks c.args.checked.now.diagram c.args.net.now c.loop-block.net c.args.columns.now c.loop-block.firsts n) all c.loop-block.invariant

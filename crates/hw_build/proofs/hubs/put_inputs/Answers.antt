@@ -18,7 +18,9 @@ loop-column-preserved c =
     let block : ℕ = slice_index_or c.args.inputs.now k 0 in
     let type : FxType = (attributes_of diagram).type_at block 1 in
     let at = slice_get-get_or c.args.inputs.now k 0 c.loop-column-test.true in
-    let made : c.put_comb.new.net ≡ with_net c.loop-column.net (input_net c.result-kind.result c.in-Ok.number) = typed_net c.loop-column.net c.put_comb.new.net c.word_of.result c.result-kind.result (Comb (Input c.in-Ok.number) []) c.word_of.ensures c.in_ok-place.ensures.grown in
+    let made : c.put_comb.new.net ≡ with_net c.loop-column.net (input_net c.result-kind.result c.in-Ok.number) =
+    typed_net c.loop-column.net c.put_comb.new.net c.word_of.result c.result-kind.result
+    (Comb (Input c.in-Ok.number) []) c.word_of.ensures c.in_ok-place.ensures.grown in
     let typed : c.result-kind.result ≡ type = c.result-kind.ensures 1 in
     let number : c.in-Ok.number ≡ k = c.in-Ok.ensures.1 in
     inputs_more diagram c.args.net.now c.loop-column.net c.put_comb.new.net c.args.inputs.now k block c.loop-column.invariant at

@@ -22,15 +22,25 @@ pub bounds-site-0 : goal.bounds-site-0
 bounds-site-0 c = let count = c.requires.out.operands.count in omega (arith, count)
 
 pub bounds-site-1 : goal.bounds-site-1
-bounds-site-1 c = (second_operand c.args.site.design.checked.now.diagram c.args.net.now ((attributes_of c.args.site.design.checked.now.diagram).type_at c.args.site.place.block c.args.site.place.port) c.args.site.operands.now c.args.site.one.now.enable c.requires.out.enable c.requires.out.operands).0
+bounds-site-1 c = (second_operand c.args.site.design.checked.now.diagram c.args.net.now
+    ((attributes_of c.args.site.design.checked.now.diagram).type_at c.args.site.place.block c.args.site.place.port)
+    c.args.site.operands.now c.args.site.one.now.enable c.requires.out.enable c.requires.out.operands).0
 
 pub returns : goal.returns
 returns c =
     let begun = c.initial-begun.ensures in
     let first = c.initial-begun.result.first in
     let control = some_there c.args.site.one.now.enable c.requires.out.enable in
-    reset_entry c.args.site.design.checked.now.diagram (timing_for c.args.site.design) c.args.net.now c.put_const.new.net c.put_comb.new.net c.args.site.place.block c.args.site.one.now c.args.site.place.port c.args.site.place.element c.args.site.operands.now
+    reset_entry c.args.site.design.checked.now.diagram
+    (timing_for c.args.site.design) c.args.net.now c.put_const.new.net c.put_comb.new.net
+    c.args.site.place.block c.args.site.one.now c.args.site.place.port c.args.site.place.element
+    c.args.site.operands.now
     c.plain.result control.0 c.args.list.now first begun.kind c.in_ok-constant.constant c.requires.out.kind control.1 begun.kind_is begun.is_type begun.range begun.one c.requires.out.operands
-    (typed_net c.args.net.now c.put_const.new.net c.initial-begun.result.word begun.kind (Comb (Const first) []) begun.word_is (rw (← (to_z-of_z w128 first (search rules))) c.in_ok-constant.ensures.grown)) c.in_ok-constant.ensures.number
-    (typed_net c.put_const.new.net c.put_comb.new.net c.initial-begun.result.word begun.kind (Comb Choose (slice_index_or c.args.site.operands.now 1 0 ∷ slice_index_or c.args.site.operands.now 0 0 ∷ c.in_ok-constant.constant ∷ [])) begun.word_is c.in_ok-chosen.ensures.grown)
+    (typed_net c.args.net.now c.put_const.new.net c.initial-begun.result.word begun.kind
+    (Comb (Const first) []) begun.word_is
+    (rw (← (to_z-of_z w128 first (search rules))) c.in_ok-constant.ensures.grown))
+    c.in_ok-constant.ensures.number
+    (typed_net c.put_const.new.net c.put_comb.new.net c.initial-begun.result.word begun.kind
+    (Comb Choose (slice_index_or c.args.site.operands.now 1 0 ∷ slice_index_or c.args.site.operands.now 0 0
+    ∷ c.in_ok-constant.constant ∷ [])) begun.word_is c.in_ok-chosen.ensures.grown)
     (ap (λ (e : Entry). e.net) c.plain.ensures ∙ c.in_ok-chosen.ensures.number) (ap (λ (e : Entry). e.multiply) c.plain.ensures)

@@ -41,7 +41,11 @@ put_series-requires c =
     let clocks = c.requires.can.designed.scheduled.planned.some_clocks in
     let is : (attributes_of c.args.site.design.checked.now.diagram).period_at c.args.site.place.block ≡ Some c.unwrap-period.result = search (rules, c.period.ensures) in
     let above = c.periods_are_above.ensures.above c.args.site.design.checked.now.diagram c.args.site.place.block c.unwrap-period.result c.requires.can.designed.scheduled.checked is in
-    let has = first_operand c.args.net.now ((attributes_of c.args.site.design.checked.now.diagram).type_at c.args.site.place.block c.args.site.place.port) (enable_types (attributes_of c.args.site.design.checked.now.diagram) c.args.site.one.now.enable) c.args.site.operands.now c.requires.operands in
+    let has = first_operand c.args.net.now
+    ((attributes_of c.args.site.design.checked.now.diagram).type_at c.args.site.place.block
+    c.args.site.place.port) (enable_types
+    (attributes_of c.args.site.design.checked.now.diagram) c.args.site.one.now.enable)
+    c.args.site.operands.now c.requires.operands in
     let e = to_z-of_z w128 c.initial-begun.result.first (search rules) in
     record {
       cycles = omega (arith, clocks, c.requires.can.cycles);
@@ -51,7 +55,8 @@ put_series-requires c =
       from = subst (λ (w : Word). HasWord c.args.net.now.nets (slice_index_or c.args.site.operands.now 0 0) w.width w.signed) (sym begun.word_is)
           (subst (λ (t : FxType). HasWord c.args.net.now.nets (slice_index_or c.args.site.operands.now 0 0) (width_of t) (is_signed t)) (sym (begun.kind_is c.args.site.place.port)) has);
       enabled = c.requires.enabled;
-      first = subst (λ (w : Word). InWord w.width w.signed (to_z w128 (of_z w128 c.initial-begun.result.first))) (sym begun.word_is) (rw e (range-word begun.kind c.initial-begun.result.first begun.range));
+      first = subst (λ (w : Word). InWord w.width w.signed (to_z w128 (of_z w128 c.initial-begun.result.first)))
+          (sym begun.word_is) (rw e (range-word begun.kind c.initial-begun.result.first begun.range));
     }
 
 pub returns : goal.returns

@@ -10,12 +10,18 @@ result-kind-requires c = slice_get_within c.args.site.design.checked.now.diagram
 
 pub parameter_value-first-requires-clause-kind : goal.parameter_value-first-requires-clause-kind
 parameter_value-first-requires-clause-kind c =
-    let types = c.operations_prepare.ensures.types c.args.site.design.checked.now.diagram c.args.site.design.checked.now.order c.args.site.place.block c.args.site.one.now (record { checked = c.keeps_rules.ensures.checked; ordered = c.keeps_rules.ensures.ordered }) c.requires.shown.block_is in
+    let types = c.operations_prepare.ensures.types c.args.site.design.checked.now.diagram
+    c.args.site.design.checked.now.order c.args.site.place.block c.args.site.one.now
+    (record { checked = c.keeps_rules.ensures.checked; ordered = c.keeps_rules.ensures.ordered })
+    c.requires.shown.block_is in
     subst IsType (sym (c.result-kind.ensures 1)) types.0
 
 pub returns : goal.returns
 returns c =
-    let types = c.operations_prepare.ensures.types c.args.site.design.checked.now.diagram c.args.site.design.checked.now.order c.args.site.place.block c.args.site.one.now (record { checked = c.keeps_rules.ensures.checked; ordered = c.keeps_rules.ensures.ordered }) c.requires.shown.block_is in
+    let types = c.operations_prepare.ensures.types c.args.site.design.checked.now.diagram
+    c.args.site.design.checked.now.order c.args.site.place.block c.args.site.one.now
+    (record { checked = c.keeps_rules.ensures.checked; ordered = c.keeps_rules.ensures.ordered })
+    c.requires.shown.block_is in
     let e = to_z-of_z w128 c.parameter_value-first.result (record { sfits = c.parameter_value-first.type_inv }) in
     record {
       kind = c.result-kind.result;

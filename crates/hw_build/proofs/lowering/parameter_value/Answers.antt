@@ -11,13 +11,23 @@ use Rattle.hw_build.proofs.lowering.parameter_value.Goals as goal
 
 pub bounds-list-place_in : goal.bounds-list-place_in
 bounds-list-place_in c =
-    let fit = c.operations_prepare.ensures.fit c.args.site.design.checked.now.diagram c.args.site.design.checked.now.order c.args.site.place.block c.args.site.one.now (record { checked = c.keeps_rules.ensures.checked; ordered = c.keeps_rules.ensures.ordered }) c.requires.shown.block_is in
-    entry_there c.args.site.design.checked.now.diagram c.args.site.place.block c.args.site.one.now c.args.site.place.port c.args.site.place.element c.place_in.result c.args.list.now c.keeps_rules.ensures.checked c.requires.shown fit.1 c.requires.list c.place_in.ensures
+    let fit = c.operations_prepare.ensures.fit c.args.site.design.checked.now.diagram
+    c.args.site.design.checked.now.order c.args.site.place.block c.args.site.one.now
+    (record { checked = c.keeps_rules.ensures.checked; ordered = c.keeps_rules.ensures.ordered })
+    c.requires.shown.block_is in
+    entry_there c.args.site.design.checked.now.diagram c.args.site.place.block c.args.site.one.now
+    c.args.site.place.port c.args.site.place.element c.place_in.result c.args.list.now
+    c.keeps_rules.ensures.checked c.requires.shown fit.1 c.requires.list c.place_in.ensures
 
 pub returns-clause-entry : goal.returns-clause-entry
 returns-clause-entry c =
-    let fit = c.operations_prepare.ensures.fit c.args.site.design.checked.now.diagram c.args.site.design.checked.now.order c.args.site.place.block c.args.site.one.now (record { checked = c.keeps_rules.ensures.checked; ordered = c.keeps_rules.ensures.ordered }) c.requires.shown.block_is in
-    let below = entry_there c.args.site.design.checked.now.diagram c.args.site.place.block c.args.site.one.now c.args.site.place.port c.args.site.place.element c.place_in.result c.args.list.now c.keeps_rules.ensures.checked c.requires.shown fit.1 c.requires.list c.place_in.ensures in
+    let fit = c.operations_prepare.ensures.fit c.args.site.design.checked.now.diagram
+    c.args.site.design.checked.now.order c.args.site.place.block c.args.site.one.now
+    (record { checked = c.keeps_rules.ensures.checked; ordered = c.keeps_rules.ensures.ordered })
+    c.requires.shown.block_is in
+    let below = entry_there c.args.site.design.checked.now.diagram c.args.site.place.block c.args.site.one.now
+    c.args.site.place.port c.args.site.place.element c.place_in.result c.args.list.now
+    c.keeps_rules.ensures.checked c.requires.shown fit.1 c.requires.list c.place_in.ensures in
     let there = slice_get_read c.args.list.now _ c.place_in.result c.index-list-place_in.result refl below c.index-list-place_in.is in
     let entry : entry_of c.args.list.now c.args.site.place.element ≡ Some c.index-list-place_in.result = ap (slice_get c.args.list.now) (sym c.place_in.ensures) ∙ there in
     rw (to_z-of_z w128 c.to_stored.result (record { sfits = c.to_stored.type_inv }))
@@ -31,8 +41,13 @@ returns-clause-range c =
 pub returns-clause-one : goal.returns-clause-one
 returns-clause-one c v =
     λ stored.
-    let fit = c.operations_prepare.ensures.fit c.args.site.design.checked.now.diagram c.args.site.design.checked.now.order c.args.site.place.block c.args.site.one.now (record { checked = c.keeps_rules.ensures.checked; ordered = c.keeps_rules.ensures.ordered }) c.requires.shown.block_is in
-    let below = entry_there c.args.site.design.checked.now.diagram c.args.site.place.block c.args.site.one.now c.args.site.place.port c.args.site.place.element c.place_in.result c.args.list.now c.keeps_rules.ensures.checked c.requires.shown fit.1 c.requires.list c.place_in.ensures in
+    let fit = c.operations_prepare.ensures.fit c.args.site.design.checked.now.diagram
+    c.args.site.design.checked.now.order c.args.site.place.block c.args.site.one.now
+    (record { checked = c.keeps_rules.ensures.checked; ordered = c.keeps_rules.ensures.ordered })
+    c.requires.shown.block_is in
+    let below = entry_there c.args.site.design.checked.now.diagram c.args.site.place.block c.args.site.one.now
+    c.args.site.place.port c.args.site.place.element c.place_in.result c.args.list.now
+    c.keeps_rules.ensures.checked c.requires.shown fit.1 c.requires.list c.place_in.ensures in
     let there = slice_get_read c.args.list.now _ c.place_in.result c.index-list-place_in.result refl below c.index-list-place_in.is in
     let entry : entry_of c.args.list.now c.args.site.place.element ≡ Some c.index-list-place_in.result = ap (slice_get c.args.list.now) (sym c.place_in.ensures) ∙ there in
     let one = c.storing_gives_one.ensures c.index-list-place_in.result c.args.kind c.requires.kind in
@@ -41,6 +56,11 @@ returns-clause-one c v =
 
 pub offset_bounds-list-place_in : goal.offset_bounds-list-place_in
 offset_bounds-list-place_in c =
-    let fit = c.operations_prepare.ensures.fit c.args.site.design.checked.now.diagram c.args.site.design.checked.now.order c.args.site.place.block c.args.site.one.now (record { checked = c.keeps_rules.ensures.checked; ordered = c.keeps_rules.ensures.ordered }) c.requires.shown.block_is in
-    let inside = entry_there c.args.site.design.checked.now.diagram c.args.site.place.block c.args.site.one.now c.args.site.place.port c.args.site.place.element c.place_in.result c.args.list.now c.keeps_rules.ensures.checked c.requires.shown fit.1 c.requires.list c.place_in.ensures in
+    let fit = c.operations_prepare.ensures.fit c.args.site.design.checked.now.diagram
+    c.args.site.design.checked.now.order c.args.site.place.block c.args.site.one.now
+    (record { checked = c.keeps_rules.ensures.checked; ordered = c.keeps_rules.ensures.ordered })
+    c.requires.shown.block_is in
+    let inside = entry_there c.args.site.design.checked.now.diagram c.args.site.place.block c.args.site.one.now
+    c.args.site.place.port c.args.site.place.element c.place_in.result c.args.list.now
+    c.keeps_rules.ensures.checked c.requires.shown fit.1 c.requires.list c.place_in.ensures in
     omega (arith, inside)

@@ -11,4 +11,6 @@ pub loop-element-preserved : goal.loop-element-preserved
 loop-element-preserved c =
     let f : ℕ → ℕ = offered_at c.args.to.setting.design.checked.now.diagram c.args.to.setting.operands.now c.args.to.place.block 1 in
     rw c.in_ok-push.ensures.appended
-    (ap (λ (xs : List ℕ). xs ++ c.at.result ∷ []) c.loop-element.invariant ∙ ap (λ (n : ℕ). map f (numbers_from 0 c.loop-element.element) ++ n ∷ []) c.at.ensures ∙ sym (numbers_more f c.loop-element.element))
+    (ap (λ (xs : List ℕ). xs ++ c.at.result ∷ []) c.loop-element.invariant
+    ∙ ap (λ (n : ℕ). map f (numbers_from 0 c.loop-element.element) ++ n ∷ []) c.at.ensures
+    ∙ sym (numbers_more f c.loop-element.element))

@@ -10,7 +10,10 @@ use Rattle.std.proofs.lemmas.Result.{on_ok_weaker}
 use Rattle.hw_build.proofs.offers.from_part.Goals as goal
 
 -- the element is one of the first port, and has its part
-within : (to : Element) (parts : List ℕ) → SignalsFit → IsOrdered (diagram_of to.setting) to.setting.design.checked.now.order → (sizes : List ℕ) × (to.one.now.kind ≡ Mux sizes) → IsShownAt to → ArePartsTo to.setting to.place.block to.one.now to.one.now.inputs 0 parts
+within : (to : Element) (parts : List ℕ) → SignalsFit
+    → IsOrdered (diagram_of to.setting) to.setting.design.checked.now.order
+    → (sizes : List ℕ) × (to.one.now.kind ≡ Mux sizes) → IsShownAt to
+    → ArePartsTo to.setting to.place.block to.one.now to.one.now.inputs 0 parts
     → (to.place.port ≡ 1) × (to.place.element < length parts)
 within to parts fits ordered kind shown are =
     let diagram = diagram_of to.setting in
@@ -21,16 +24,22 @@ within to parts fits ordered kind shown are =
     (inside.0, omega (arith, are.size, inside.1))
 
 pub bounds-parts-to : goal.bounds-parts-to
-bounds-parts-to c = (within c.args.to c.args.parts.now c.operations_prepare.ensures.fit (record { checked = c.keeps_rules.ensures.checked; ordered = c.keeps_rules.ensures.ordered }) c.requires.kind c.requires.shown c.requires.parts).1
+bounds-parts-to c = (within c.args.to c.args.parts.now c.operations_prepare.ensures.fit
+    (record { checked = c.keeps_rules.ensures.checked; ordered = c.keeps_rules.ensures.ordered }) c.requires.kind
+    c.requires.shown c.requires.parts).1
 
 pub offset_bounds-parts-to : goal.offset_bounds-parts-to
 offset_bounds-parts-to c =
-    let inside = within c.args.to c.args.parts.now c.operations_prepare.ensures.fit (record { checked = c.keeps_rules.ensures.checked; ordered = c.keeps_rules.ensures.ordered }) c.requires.kind c.requires.shown c.requires.parts in
+    let inside = within c.args.to c.args.parts.now c.operations_prepare.ensures.fit
+    (record { checked = c.keeps_rules.ensures.checked; ordered = c.keeps_rules.ensures.ordered })
+    c.requires.kind c.requires.shown c.requires.parts in
     omega (arith, inside.1)
 
 pub returns : goal.returns
 returns c =
-    let inside = within c.args.to c.args.parts.now c.operations_prepare.ensures.fit (record { checked = c.keeps_rules.ensures.checked; ordered = c.keeps_rules.ensures.ordered }) c.requires.kind c.requires.shown c.requires.parts in
+    let inside = within c.args.to c.args.parts.now c.operations_prepare.ensures.fit
+    (record { checked = c.keeps_rules.ensures.checked; ordered = c.keeps_rules.ensures.ordered })
+    c.requires.kind c.requires.shown c.requires.parts in
     let net : ℕ = slice_index_or c.args.parts.now c.args.to.place.element 0 in
     on_ok_weaker c.push.result
     (λ (put : c.push.new.self ≡ c.args.nets.now ++ net ∷ []).

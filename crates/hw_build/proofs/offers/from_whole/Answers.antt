@@ -16,7 +16,9 @@ returns c =
     let from = c.requires.shown.port_from in
     let below : c.args.to.place.port - 1 < shown_ports c.args.to.one.now.kind c.args.to.one.now.outputs = omega (arith, to, from) in
     let begin : slice_index_or c.args.begins.now (c.args.to.place.port - 1) 0 ≡ sum (map ((attributes_of diagram).width_at block) (numbers_from 1 (c.args.to.place.port - 1))) =
-    c.requires.begins.each (c.args.to.place.port - 1) below ∙ ap (λ (k : Kind). sum (map (shown_width diagram (attributes_of diagram) k block) (numbers_from 1 (c.args.to.place.port - 1)))) c.requires.kind.1 in
+    c.requires.begins.each (c.args.to.place.port - 1) below
+    ∙ ap (λ (k : Kind). sum (map (shown_width diagram (attributes_of diagram) k block)
+    (numbers_from 1 (c.args.to.place.port - 1)))) c.requires.kind.1 in
     on_ok_weaker c.push.result
     (λ (put : c.push.new.self ≡ c.args.nets.now ++ c.at-net.result ∷ []).
     λ places fits. subst (λ (k : Kind). AreOffered diagram places block c.args.to.one.now c.args.to.place.port c.args.to.place.element k c.push.new.self) (sym c.requires.kind.1)

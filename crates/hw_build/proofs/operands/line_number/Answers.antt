@@ -9,6 +9,9 @@ use Rattle.hw_build.proofs.operands.line_number.Goals as goal
 pub returns : goal.returns
 returns c =
     let es : c.as_slice-edges.result.now ≡ c.args.checked.now.diagram.edges = c.as_slice-edges.ensures ∙ ap (λ (d : Diagram). d.edges) c.diagram.ensures in
-    let ordered : IsPartitionedBy (is_line_before c.args.block c.args.port) c.as_slice-edges.result.now = subst (IsPartitionedBy (is_line_before c.args.block c.args.port)) (sym es) (parted c.args.checked.now.diagram.edges c.args.block c.args.port c.keeps_rules.ensures.checked.wired.ordered) in
+    let ordered : IsPartitionedBy (is_line_before c.args.block c.args.port) c.as_slice-edges.result.now =
+    subst (IsPartitionedBy (is_line_before c.args.block c.args.port)) (sym es)
+    (parted c.args.checked.now.diagram.edges c.args.block c.args.port
+    c.keeps_rules.ensures.checked.wired.ordered) in
     let point = c.partition_point.ensures.partitioned (is_line_before c.args.block c.args.port) (always_returns_same _ _ _ (λ a r f k. search (rules, of_calls))) ordered in
     number_is c.as_slice-edges.result.now c.args.block c.args.port c.partition_point.result c.partition_point.ensures.bound point ∙ ap (first_not (is_line_before c.args.block c.args.port)) es

@@ -9,10 +9,14 @@ some period cycles p c = let e : 1 * cycles ≤ period * cycles = mul-le-mul_rig
 pub overflow_mul-result : goal.overflow_mul-result
 overflow_mul-result c =
     let scheduled = c.requires.designed.scheduled in
-    let few = room c.args.period c.args.design.plan.now.cycles (c.periods_are_above.ensures.short c.args.design.checked.now.diagram c.args.block c.args.period scheduled.checked c.requires.period) scheduled.planned.few_clocks in
+    let few = room c.args.period c.args.design.plan.now.cycles
+    (c.periods_are_above.ensures.short c.args.design.checked.now.diagram c.args.block c.args.period
+    scheduled.checked c.requires.period) scheduled.planned.few_clocks in
     search (rules, few)
 
 pub overflow_sub-result : goal.overflow_sub-result
 overflow_sub-result c =
     let scheduled = c.requires.designed.scheduled in
-    some c.args.period c.args.design.plan.now.cycles (c.periods_are_above.ensures.above c.args.design.checked.now.diagram c.args.block c.args.period scheduled.checked c.requires.period) scheduled.planned.some_clocks
+    some c.args.period c.args.design.plan.now.cycles
+    (c.periods_are_above.ensures.above c.args.design.checked.now.diagram c.args.block c.args.period
+    scheduled.checked c.requires.period) scheduled.planned.some_clocks

@@ -60,10 +60,21 @@ returns c =
     let is : (attributes_of c.args.design.checked.now.diagram).period_at c.args.block ≡ Some c.in-Some.period = sym c.period.ensures ∙ c.in-Some.is in
     let stages = ap (λ (xs : List ℕ). slice_index_or xs c.args.block 0) c.as_slice.ensures in
     let wired = typed_net c.counter.new.self c.put_comb.new.net c.word_of.result c.result-kind.result (Comb Resize (c.args.entry ∷ [])) c.word_of.ensures c.in_ok-begin.ensures.grown in
-    piped_put c.args.design.checked.now.diagram (timing_for c.args.design) c.args.net.now c.put_stages.new.net c.args.block c.args.element c.args.entry c.in-Some.period (record { begin = c.in_ok-begin.begin; end = c.in_ok-end.end }) is
+    piped_put c.args.design.checked.now.diagram
+    (timing_for c.args.design) c.args.net.now c.put_stages.new.net c.args.block c.args.element c.args.entry
+    c.in-Some.period (record { begin = c.in_ok-begin.begin; end = c.in_ok-end.end }) is
     (subst (λ (xs : List ℕ). 0 < slice_index_or xs c.args.block 0) c.as_slice.ensures some)
-    (pipeline_put (timing_for c.args.design) c.args.net.now c.counter.new.self c.put_comb.new.net (with_nets c.put_comb.new.net (stage_nets c.result-kind.result c.own_frame_of-frame.result c.last_slot-slot.result c.in_ok-begin.begin (slice_index_or c.as_slice.result.now c.args.block 0))) c.put_stages.new.net _ c.result-kind.result c.args.block c.args.element c.in-Some.period c.args.entry c.in_ok-begin.begin (slice_index_or c.as_slice.result.now c.args.block 0) c.last_slot-slot.result c.in_ok-counter.field-0 c.own_frame_of-frame.result (wire_of c.result-kind.result c.args.entry)
-    (c.result-kind.ensures 1) c.own_frame_of-frame.ensures c.last_slot-slot.ensures stages c.in_ok-counter.ensures.counted c.in_ok-counter.ensures.found c.in_ok-begin.ensures.number refl wired refl c.in_ok-end.ensures.grown)
+    (pipeline_put (timing_for c.args.design) c.args.net.now c.counter.new.self c.put_comb.new.net
+    (with_nets c.put_comb.new.net (stage_nets c.result-kind.result c.own_frame_of-frame.result
+    c.last_slot-slot.result c.in_ok-begin.begin (slice_index_or c.as_slice.result.now c.args.block 0)))
+    c.put_stages.new.net _ c.result-kind.result c.args.block c.args.element c.in-Some.period
+    c.args.entry c.in_ok-begin.begin
+    (slice_index_or c.as_slice.result.now c.args.block 0) c.last_slot-slot.result
+    c.in_ok-counter.field-0 c.own_frame_of-frame.result
+    (wire_of c.result-kind.result c.args.entry)
+    (c.result-kind.ensures 1) c.own_frame_of-frame.ensures c.last_slot-slot.ensures stages
+    c.in_ok-counter.ensures.counted c.in_ok-counter.ensures.found c.in_ok-begin.ensures.number refl wired refl
+    c.in_ok-end.ensures.grown)
     (c.in_ok-end.ensures.end ∙ ap (λ (n : ℕ). c.in_ok-begin.begin + n) stages)
 
 pub offset_bounds-as_slice-block : goal.offset_bounds-as_slice-block

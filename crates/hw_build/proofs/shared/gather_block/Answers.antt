@@ -17,12 +17,17 @@ returns-then-not-is_shared-clause-more c =
     let diagram = c.args.design.checked.now.diagram in
     let plan = c.args.design.plan.now in
     let other : c.is_shared.result ≡ false = search rules in
-    let none : shared_width diagram plan c.args.block ≡ 0 = cond-false {A = ℕ} (is_shared diagram (attributes_of diagram) plan c.args.block) ((attributes_of diagram).width_at c.args.block 1) 0 (sym c.is_shared.ensures ∙ other) in
-    subst (λ (n : ℕ). GathersFor c.args.design c.args.operands.now c.args.net.now c.args.net.now c.args.operations.now.items c.args.operations.now.items (first_for c.args.design c.args.block) n) (sym none)
+    let none : shared_width diagram plan c.args.block ≡ 0 =
+    cond-false {A = ℕ} (is_shared diagram (attributes_of diagram) plan c.args.block)
+    ((attributes_of diagram).width_at c.args.block 1) 0 (sym c.is_shared.ensures ∙ other) in
+    subst (λ (n : ℕ). GathersFor c.args.design c.args.operands.now c.args.net.now c.args.net.now
+    c.args.operations.now.items c.args.operations.now.items (first_for c.args.design c.args.block) n) (sym none)
     (gathers_none diagram plan (times_for c.args.design) (offered_at diagram c.args.operands.now) c.args.net.now c.args.operations.now.items (first_for c.args.design c.args.block) c.requires.count)
 
 pub loop-element-init : goal.loop-element-init
-loop-element-init c = gathers_none c.args.design.checked.now.diagram c.args.design.plan.now (times_for c.args.design) (offered_at c.args.design.checked.now.diagram c.args.operands.now) c.args.net.now c.args.operations.now.items (first_for c.args.design c.args.block) c.requires.count
+loop-element-init c = gathers_none c.args.design.checked.now.diagram c.args.design.plan.now
+    (times_for c.args.design) (offered_at c.args.design.checked.now.diagram c.args.operands.now) c.args.net.now
+    c.args.operations.now.items (first_for c.args.design c.args.block) c.requires.count
 
 pub shared_of-requires-clause-is : goal.shared_of-requires-clause-is
 shared_of-requires-clause-is c =
@@ -51,8 +56,14 @@ loop-element-preserved c =
     let number : c.len-number.result ≡ count = size ∙ c.loop-element.invariant.size in
     let made = subst (λ (n : ℕ). IsGatheredFor c.args.design c.args.operands.now c.loop-element.net c.shared_of.new.net n o c.in_ok-made.made) number c.in_ok-made.ensures.made in
     let more : c.push.new.self.items ≡ c.loop-element.operations.items ++ c.in_ok-made.made ∷ [] = c.in_ok-push.ensures.items in
-    let one = gathers_one diagram plan (times_for c.args.design) (offered_at diagram c.args.operands.now) c.loop-element.net c.shared_of.new.net c.loop-element.operations.items count o c.in_ok-made.made c.loop-element.invariant.size there c.in_ok-made.ensures.adds made in
-    rw more (gathers_then diagram plan (times_for c.args.design) (offered_at diagram c.args.operands.now) c.args.net.now c.loop-element.net c.shared_of.new.net c.args.operations.now.items c.loop-element.operations.items (c.loop-element.operations.items ++ c.in_ok-made.made ∷ [])
+    let one = gathers_one diagram plan (times_for c.args.design)
+    (offered_at diagram c.args.operands.now) c.loop-element.net c.shared_of.new.net
+    c.loop-element.operations.items count o c.in_ok-made.made c.loop-element.invariant.size there
+    c.in_ok-made.ensures.adds made in
+    rw more (gathers_then diagram plan (times_for c.args.design)
+    (offered_at diagram c.args.operands.now) c.args.net.now c.loop-element.net c.shared_of.new.net
+    c.args.operations.now.items c.loop-element.operations.items
+    (c.loop-element.operations.items ++ c.in_ok-made.made ∷ [])
     (first_for c.args.design c.args.block) c.loop-element.element 1 c.loop-element.invariant one)
 
 pub own_width-element-end-requires : goal.own_width-element-end-requires
@@ -68,5 +79,11 @@ returns-clause-more c =
     let high = c.loop-element.auto.element-end in
     let shared : c.is_shared.result ≡ true = search rules in
     let all : c.loop-element.element ≡ shared_width c.args.design.checked.now.diagram c.args.design.plan.now c.args.block =
-    omega (arith, width, low, high) ∙ sym (cond-true {A = ℕ} (is_shared c.args.design.checked.now.diagram (attributes_of c.args.design.checked.now.diagram) c.args.design.plan.now c.args.block) ((attributes_of c.args.design.checked.now.diagram).width_at c.args.block 1) 0 (sym c.is_shared.ensures ∙ shared)) in
-    subst (λ (n : ℕ). GathersFor c.args.design c.args.operands.now c.args.net.now c.loop-element.net c.args.operations.now.items c.loop-element.operations.items (first_for c.args.design c.args.block) n) all c.loop-element.invariant
+    omega (arith, width, low, high) ∙ sym
+    (cond-true {A = ℕ} (is_shared c.args.design.checked.now.diagram
+    (attributes_of c.args.design.checked.now.diagram) c.args.design.plan.now c.args.block)
+    ((attributes_of c.args.design.checked.now.diagram).width_at c.args.block 1) 0
+    (sym c.is_shared.ensures ∙ shared)) in
+    subst (λ (n : ℕ). GathersFor c.args.design c.args.operands.now c.args.net.now c.loop-element.net
+    c.args.operations.now.items c.loop-element.operations.items (first_for c.args.design c.args.block) n) all
+    c.loop-element.invariant

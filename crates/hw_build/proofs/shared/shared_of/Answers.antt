@@ -41,7 +41,9 @@ offset_bounds-as_slice-block c =
     omega (arith, low)
 
 -- what is read has an entry for each shared operation
-listed : (design : Design) (number : ℕ) (o : Operation) (list read : List ℕ) → IsNumbered design number o → length list ≡ length (shared_operations design.checked.now.diagram (attributes_of design.checked.now.diagram) design.plan.now) → read ≡ list → number < length read
+listed : (design : Design) (number : ℕ) (o : Operation) (list read : List ℕ) → IsNumbered design number o
+    → length list ≡ length (shared_operations design.checked.now.diagram
+    (attributes_of design.checked.now.diagram) design.plan.now) → read ≡ list → number < length read
 listed design number o list read is size same = entry_read _ number list read (slice_get_within _ number o is) size same
 
 pub bounds-as_slice-number : goal.bounds-as_slice-number
@@ -65,17 +67,30 @@ returns-clause-made c =
     let diagram = c.args.design.checked.now.diagram in
     let o : Operation = operation c.args.block c.args.element in
     let period : c.samples.result ≡ samples ((attributes_of diagram).period_at c.args.block) = c.samples.ensures ∙ ap samples c.period.ensures in
-    let late : slice_index_or c.as_slice.result.now c.args.block 0 ≡ latency_at c.args.design.latencies.now.lat c.args.block = ap (λ (xs : List ℕ). slice_index_or xs c.args.block 0) c.as_slice.ensures in
+    let late : slice_index_or c.as_slice.result.now c.args.block 0
+    ≡ latency_at c.args.design.latencies.now.lat c.args.block =
+    ap (λ (xs : List ℕ). slice_index_or xs c.args.block 0) c.as_slice.ensures in
     let slot : slice_index_or c.as_slice-2.result.now c.args.number 0 ≡ slot_of diagram (attributes_of diagram) c.args.design.plan.now (times_for c.args.design) c.args.number o =
-    ap (λ (xs : List ℕ). slice_index_or xs c.args.number 0) c.as_slice-2.ensures ∙ get_or_from_slice_get c.args.design.slots.now.starts c.args.number _ 0 (c.requires.can.slots.starts.are c.args.number o c.requires.is) in
+    ap (λ (xs : List ℕ). slice_index_or xs c.args.number 0) c.as_slice-2.ensures
+    ∙ get_or_from_slice_get c.args.design.slots.now.starts c.args.number _ 0
+    (c.requires.can.slots.starts.are c.args.number o c.requires.is) in
     let unit : slice_index_or c.as_slice-3.result.now c.args.number 0 ≡ unit_of diagram (attributes_of diagram) c.args.design.plan.now (times_for c.args.design) c.args.number o =
-    ap (λ (xs : List ℕ). slice_index_or xs c.args.number 0) c.as_slice-3.ensures ∙ get_or_from_slice_get c.args.design.slots.now.units c.args.number _ 0 (c.requires.can.slots.units.are c.args.number o c.requires.is) in
+    ap (λ (xs : List ℕ). slice_index_or xs c.args.number 0) c.as_slice-3.ensures
+    ∙ get_or_from_slice_get c.args.design.slots.now.units c.args.number _ 0
+    (c.requires.can.slots.units.are c.args.number o c.requires.is) in
     record {
-      frame = ap (λ (p : ℕ). record { period = p; latency = slice_index_or c.as_slice.result.now c.args.block 0 }) period ∙ ap (λ (l : ℕ). record { period = samples ((attributes_of diagram).period_at c.args.block); latency = l }) late;
+      frame = ap (λ (p : ℕ). record { period = p; latency = slice_index_or c.as_slice.result.now c.args.block 0 })
+          period ∙ ap (λ (l : ℕ). record {
+            period =
+                samples ((attributes_of diagram).period_at c.args.block);
+            latency = l;
+          }) late;
       slot = slot;
       unit = unit;
       left = c.at-left.ensures;
       right = λ b at.
-          subst (λ (one : Block). IsSecond diagram (offered_at diagram c.args.operands.now) c.args.net.now c.second_of.new.net c.args.block c.args.element (row_of one.kind).types.full c.in_ok-right.right)
+          subst (λ (one : Block). IsSecond diagram
+          (offered_at diagram c.args.operands.now) c.args.net.now c.second_of.new.net c.args.block
+          c.args.element (row_of one.kind).types.full c.in_ok-right.right)
           (same_Some c.args.one.now b (sym c.requires.block ∙ at)) c.in_ok-right.ensures.is;
     }

@@ -15,7 +15,9 @@ returns-clause-is c =
     let one : Class = record { feed = c.args.feed; uses = c.new.result } in
     let last : c.in-Ok.number ≡ length c.args.classes.now.list.items = search rules in
     let grown : c.push.new.self.items ≡ c.args.classes.now.list.items ++ one ∷ [] = c.in_ok-push.ensures.items in
-    class_new c.args.classes.now.list.items c.push.new.self.items c.args.feed c.in-Ok.number one last grown refl c.new.ensures.items (c.requires.none c.args.feed (sym c.get.ensures.value ∙ sym c.copied.ensures ∙ c.in_default.is))
+    class_new c.args.classes.now.list.items c.push.new.self.items c.args.feed c.in-Ok.number one last grown refl
+    c.new.ensures.items
+    (c.requires.none c.args.feed (sym c.get.ensures.value ∙ sym c.copied.ensures ∙ c.in_default.is))
 
 pub returns-clause-indexed : goal.returns-clause-indexed
 returns-clause-indexed c =

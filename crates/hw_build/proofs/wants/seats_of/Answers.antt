@@ -26,7 +26,8 @@ loop-want-preserved c =
     let want : Want = slice_index_or c.args.wants.now i no_want in
     let at : slice_get c.args.wants.now i ≡ Some want = slice_get-get_or c.args.wants.now i no_want c.loop-want-test.true in
     let more : c.push.new.self.items ≡ c.loop-want.seats.items ++ c.in_ok-seat.seat ∷ [] = c.in_ok-push.ensures.items in (
-      rw more (seated_more c.args.wants.now c.loop-want.classes.list.items c.seat_for.new.classes.list.items c.loop-want.seats.items i want c.in_ok-seat.seat c.loop-want.invariant.0 at c.in_ok-seat.ensures.is),
+      rw more (seated_more c.args.wants.now c.loop-want.classes.list.items c.seat_for.new.classes.list.items
+          c.loop-want.seats.items i want c.in_ok-seat.seat c.loop-want.invariant.0 at c.in_ok-seat.ensures.is),
       c.in_ok-seat.ensures.indexed,
     )
 

@@ -18,10 +18,14 @@ use Rattle.hw_build.proofs.worked.op_of.Goals as goal
 use Rattle.hw_build.proofs.worked.op_of.Goals.{In-Gain, In-Switch}
 
 gain : (c : In-Gain) → c.args.site.one.now.kind ≡ Gain c.list_of-list.result.now c.in-Gain.param
-gain c = c.in-Gain.is ∙ ap (λ (list : List Decimal). Gain list c.in-Gain.param) (list_is c.args.site.one.now.kind (Gain c.in-Gain.value c.in-Gain.param) c.list_of-list.result.now c.list_of-list.ensures c.in-Gain.is)
+gain c = c.in-Gain.is ∙ ap (λ (list : List Decimal). Gain list c.in-Gain.param)
+    (list_is c.args.site.one.now.kind
+    (Gain c.in-Gain.value c.in-Gain.param) c.list_of-list.result.now c.list_of-list.ensures c.in-Gain.is)
 
 switch : (c : In-Switch) → c.args.site.one.now.kind ≡ Switch c.in-Switch.criterion c.list_of-list.result.now
-switch c = c.in-Switch.is ∙ ap (Switch c.in-Switch.criterion) (list_is c.args.site.one.now.kind (Switch c.in-Switch.criterion c.in-Switch.threshold) c.list_of-list.result.now c.list_of-list.ensures c.in-Switch.is)
+switch c = c.in-Switch.is ∙ ap (Switch c.in-Switch.criterion)
+    (list_is c.args.site.one.now.kind (Switch c.in-Switch.criterion c.in-Switch.threshold) c.list_of-list.result.now
+    c.list_of-list.ensures c.in-Switch.is)
 
 pub param-own-requires : goal.param-own-requires
 param-own-requires c = slice_get_within c.args.site.design.checked.now.diagram.blocks c.args.site.place.block c.args.site.one.now c.requires.shown.block_is
@@ -31,7 +35,10 @@ param-param-requires c = slice_get_within c.args.site.design.checked.now.diagram
 
 pub parameter_value-coefficient-requires-clause-kind : goal.parameter_value-coefficient-requires-clause-kind
 parameter_value-coefficient-requires-clause-kind c =
-    let types = c.operations_prepare.ensures.types c.args.site.design.checked.now.diagram c.args.site.design.checked.now.order c.args.site.place.block c.args.site.one.now (record { checked = c.keeps_rules.ensures.checked; ordered = c.keeps_rules.ensures.ordered }) c.requires.shown.block_is in
+    let types = c.operations_prepare.ensures.types c.args.site.design.checked.now.diagram
+    c.args.site.design.checked.now.order c.args.site.place.block c.args.site.one.now
+    (record { checked = c.keeps_rules.ensures.checked; ordered = c.keeps_rules.ensures.ordered })
+    c.requires.shown.block_is in
     subst IsType (sym c.param-param.ensures) types.1
 
 pub parameter_value-coefficient-requires-clause-list : goal.parameter_value-coefficient-requires-clause-list
@@ -40,7 +47,12 @@ parameter_value-coefficient-requires-clause-list c = ap (λ (kind : Kind). (row_
 pub returns-in-Gain : goal.returns-in-Gain
 returns-in-Gain c =
     let e = to_z-of_z w128 c.parameter_value-coefficient.result (record { sfits = c.parameter_value-coefficient.type_inv }) in
-    subst (λ (k : Kind). IsOpOf k c.args.site.place.element ((attributes_of c.args.site.design.checked.now.diagram).param_at c.args.site.place.block) (type_into c.args.site.design.checked.now.diagram (attributes_of c.args.site.design.checked.now.diagram) c.args.site.place.block 2) (OpGain (to_z w128 (of_z w128 c.parameter_value-coefficient.result)) c.param-param.result)) (sym (gain (goal.at.returns-in-Gain c).In-Gain)) (
+    subst (λ (k : Kind). IsOpOf k c.args.site.place.element
+    ((attributes_of c.args.site.design.checked.now.diagram).param_at c.args.site.place.block)
+    (type_into c.args.site.design.checked.now.diagram
+    (attributes_of c.args.site.design.checked.now.diagram) c.args.site.place.block 2)
+    (OpGain (to_z w128 (of_z w128 c.parameter_value-coefficient.result)) c.param-param.result))
+    (sym (gain (goal.at.returns-in-Gain c).In-Gain)) (
       c.parameter_value-coefficient.result,
       subst (λ (t : FxType). StoresEntry c.list_of-list.result.now c.args.site.place.element t c.parameter_value-coefficient.result) c.param-param.ensures c.parameter_value-coefficient.ensures.entry,
       ap (λ (n : ℤ). OpGain n c.param-param.result) e ∙ ap (OpGain c.parameter_value-coefficient.result) c.param-param.ensures,
@@ -48,13 +60,21 @@ returns-in-Gain c =
 
 pub bounds-site-1 : goal.bounds-site-1
 bounds-site-1 c =
-    let three = three_types c.args.site.design.checked.now.diagram c.args.site.place.block c.args.site.one.now c.in-Switch.criterion c.in-Switch.threshold c.args.site.types.now c.keeps_rules.ensures.checked c.requires.shown.block_is c.in-Switch.is c.requires.types in
+    let three = three_types c.args.site.design.checked.now.diagram c.args.site.place.block c.args.site.one.now
+    c.in-Switch.criterion c.in-Switch.threshold c.args.site.types.now c.keeps_rules.ensures.checked
+    c.requires.shown.block_is c.in-Switch.is c.requires.types in
     omega (arith, three)
 
 pub parameter_value-threshold-requires-clause-kind : goal.parameter_value-threshold-requires-clause-kind
 parameter_value-threshold-requires-clause-kind c =
-    let types = c.operations_prepare.ensures.types c.args.site.design.checked.now.diagram c.args.site.design.checked.now.order c.args.site.place.block c.args.site.one.now (record { checked = c.keeps_rules.ensures.checked; ordered = c.keeps_rules.ensures.ordered }) c.requires.shown.block_is in
-    subst IsType (sym (second_type c.args.site.design.checked.now.diagram c.args.site.place.block c.args.site.one.now c.in-Switch.criterion c.in-Switch.threshold c.args.site.types.now (Num false 0 (pos 0)) c.keeps_rules.ensures.checked c.requires.shown.block_is c.in-Switch.is c.requires.types)) (types.2 2)
+    let types = c.operations_prepare.ensures.types c.args.site.design.checked.now.diagram
+    c.args.site.design.checked.now.order c.args.site.place.block c.args.site.one.now
+    (record { checked = c.keeps_rules.ensures.checked; ordered = c.keeps_rules.ensures.ordered })
+    c.requires.shown.block_is in
+    subst IsType (sym (second_type c.args.site.design.checked.now.diagram c.args.site.place.block
+    c.args.site.one.now c.in-Switch.criterion c.in-Switch.threshold c.args.site.types.now
+    (Num false 0 (pos 0)) c.keeps_rules.ensures.checked c.requires.shown.block_is c.in-Switch.is
+    c.requires.types)) (types.2 2)
 
 pub parameter_value-threshold-requires-clause-list : goal.parameter_value-threshold-requires-clause-list
 parameter_value-threshold-requires-clause-list c = ap (λ (kind : Kind). (row_of kind).signal.lists) (switch (goal.at.parameter_value-threshold-requires-clause-list c).In-Switch)
@@ -62,8 +82,18 @@ parameter_value-threshold-requires-clause-list c = ap (λ (kind : Kind). (row_of
 pub returns-in-Switch : goal.returns-in-Switch
 returns-in-Switch c =
     let e = to_z-of_z w128 c.parameter_value-threshold.result (record { sfits = c.parameter_value-threshold.type_inv }) in
-    subst (λ (k : Kind). IsOpOf k c.args.site.place.element ((attributes_of c.args.site.design.checked.now.diagram).param_at c.args.site.place.block) (type_into c.args.site.design.checked.now.diagram (attributes_of c.args.site.design.checked.now.diagram) c.args.site.place.block 2) (OpSwitch c.in-Switch.criterion (to_z w128 (of_z w128 c.parameter_value-threshold.result)))) (sym (switch (goal.at.returns-in-Switch c).In-Switch)) (
+    subst (λ (k : Kind). IsOpOf k c.args.site.place.element
+    ((attributes_of c.args.site.design.checked.now.diagram).param_at c.args.site.place.block)
+    (type_into c.args.site.design.checked.now.diagram
+    (attributes_of c.args.site.design.checked.now.diagram) c.args.site.place.block 2)
+    (OpSwitch c.in-Switch.criterion (to_z w128 (of_z w128 c.parameter_value-threshold.result))))
+    (sym (switch (goal.at.returns-in-Switch c).In-Switch)) (
       c.parameter_value-threshold.result,
-      subst (λ (t : FxType). StoresEntry c.list_of-list.result.now c.args.site.place.element t c.parameter_value-threshold.result) (second_type c.args.site.design.checked.now.diagram c.args.site.place.block c.args.site.one.now c.in-Switch.criterion c.in-Switch.threshold c.args.site.types.now (Num false 0 (pos 0)) c.keeps_rules.ensures.checked c.requires.shown.block_is c.in-Switch.is c.requires.types) c.parameter_value-threshold.ensures.entry,
+      subst (λ (t : FxType). StoresEntry c.list_of-list.result.now c.args.site.place.element t
+          c.parameter_value-threshold.result)
+          (second_type c.args.site.design.checked.now.diagram c.args.site.place.block c.args.site.one.now
+          c.in-Switch.criterion c.in-Switch.threshold c.args.site.types.now
+          (Num false 0 (pos 0)) c.keeps_rules.ensures.checked c.requires.shown.block_is c.in-Switch.is
+          c.requires.types) c.parameter_value-threshold.ensures.entry,
       ap (OpSwitch c.in-Switch.criterion) e,
     )

@@ -11,7 +11,12 @@ use Rattle.hw_build.proofs.worked.put_operation.Goals as goal
 pub lower-requires-clause-args : goal.lower-requires-clause-args
 lower-requires-clause-args c =
     subst (λ (list : List FxType). AreArgs c.args.net.now list c.args.site.operands.now)
-    (types_carried c.args.site.place.element ((attributes_of c.args.site.design.checked.now.diagram).param_at c.args.site.place.block) (type_into c.args.site.design.checked.now.diagram (attributes_of c.args.site.design.checked.now.diagram) c.args.site.place.block 2) c.args.op c.args.site.design.checked.now.diagram c.args.site.place.block c.args.site.one.now c.args.site.place.port c.args.site.one.now.kind c.requires.op
+    (types_carried c.args.site.place.element
+    ((attributes_of c.args.site.design.checked.now.diagram).param_at c.args.site.place.block)
+    (type_into c.args.site.design.checked.now.diagram
+    (attributes_of c.args.site.design.checked.now.diagram) c.args.site.place.block 2) c.args.op
+    c.args.site.design.checked.now.diagram c.args.site.place.block c.args.site.one.now
+    c.args.site.place.port c.args.site.one.now.kind c.requires.op
     ∙ sym c.requires.ready.types_are) c.requires.ready.operands_are
 
 pub lower-requires-clause-can : goal.lower-requires-clause-can
@@ -22,11 +27,23 @@ lower-requires-clause-can c =
 
 pub returns : goal.returns
 returns c =
-    carried_entry c.args.site.design.checked.now.diagram (timing_for c.args.site.design) c.args.net.now c.lower.new.net c.args.site.place.block c.args.site.one.now c.args.site.place.port c.args.site.place.element c.args.site.operands.now
+    carried_entry c.args.site.design.checked.now.diagram
+    (timing_for c.args.site.design) c.args.net.now c.lower.new.net c.args.site.place.block c.args.site.one.now
+    c.args.site.place.port c.args.site.place.element c.args.site.operands.now
     (record { net = c.in_ok-number.number; state = c.in_ok-number.number; multiply = c.in_ok-multiply.multiply }) c.args.op c.in_ok-number.number c.result-kind.result c.requires.op
-    (rw (← c.requires.ready.types_are, ← c.signs-signs.ensures, ← (c.result-kind.ensures 1)) c.in_ok-number.ensures.lowers) (rw (← c.requires.ready.types_are, ← c.signs-signs.ensures, ← (c.result-kind.ensures 1)) c.in_ok-number.ensures.lowered)
+    (rw (← c.requires.ready.types_are, ← c.signs-signs.ensures, ← (c.result-kind.ensures 1))
+    c.in_ok-number.ensures.lowers) (rw (
+      ← c.requires.ready.types_are,
+      ← c.signs-signs.ensures,
+      ← (c.result-kind.ensures 1),
+    ) c.in_ok-number.ensures.lowered)
     (subst (λ (list : List FxType). AreArgs c.args.net.now list c.args.site.operands.now)
-    (types_carried c.args.site.place.element ((attributes_of c.args.site.design.checked.now.diagram).param_at c.args.site.place.block) (type_into c.args.site.design.checked.now.diagram (attributes_of c.args.site.design.checked.now.diagram) c.args.site.place.block 2) c.args.op c.args.site.design.checked.now.diagram c.args.site.place.block c.args.site.one.now c.args.site.place.port c.args.site.one.now.kind c.requires.op)
+    (types_carried c.args.site.place.element
+    ((attributes_of c.args.site.design.checked.now.diagram).param_at c.args.site.place.block)
+    (type_into c.args.site.design.checked.now.diagram
+    (attributes_of c.args.site.design.checked.now.diagram) c.args.site.place.block 2) c.args.op
+    c.args.site.design.checked.now.diagram c.args.site.place.block c.args.site.one.now
+    c.args.site.place.port c.args.site.one.now.kind c.requires.op)
     c.requires.ready.operands_are) c.result-kind.ensures refl c.in_ok-multiply.ensures
 
 pub result-kind-requires : goal.result-kind-requires

@@ -15,7 +15,12 @@ lower-requires-clause-args c = one_arg c.args.net.now c.args.full c.args.product
 
 pub lower-requires-clause-can : goal.lower-requires-clause-can
 lower-requires-clause-can c =
-    let types = c.operations_prepare.ensures.types c.args.design.checked.now.diagram c.args.design.checked.now.order c.args.place.block c.args.one.now (record { checked = c.keeps_rules.ensures.checked; ordered = c.keeps_rules.ensures.ordered }) c.requires.block in
+    let types = c.operations_prepare.ensures.types c.args.design.checked.now.diagram c.args.design.checked.now.order
+    c.args.place.block c.args.one.now (record {
+      checked = c.keeps_rules.ensures.checked;
+      ordered =
+          c.keeps_rules.ensures.ordered;
+    }) c.requires.block in
     record {
       arity = refl;
       signs = tt;
@@ -28,9 +33,15 @@ lower-requires-clause-can c =
 
 pub returns : goal.returns
 returns c =
-    shared_entry c.args.design.checked.now.diagram (timing_for c.args.design) c.args.net.now c.lower.new.net c.args.place.block c.args.one.now c.args.place.port c.args.place.element c.args.product c.plain.result c.args.full c.result-own.result c.keeps_rules.ensures.checked c.requires.block
+    shared_entry c.args.design.checked.now.diagram
+    (timing_for c.args.design) c.args.net.now c.lower.new.net c.args.place.block c.args.one.now
+    c.args.place.port c.args.place.element c.args.product c.plain.result c.args.full c.result-own.result
+    c.keeps_rules.ensures.checked c.requires.block
     c.requires.full c.requires.word c.result-own.ensures (rw (← (c.result-own.ensures 1)) c.in_ok-number.ensures.lowers)
-    (subst (λ (n : ℕ). IsLowered c.args.net.now c.lower.new.net (conversion_of (attributes_of c.args.design.checked.now.diagram) c.args.place.block c.args.one.now c.args.full) (c.args.product ∷ []) n) (sym (ap (λ (e : Entry). e.net) c.plain.ensures)) (rw (← (c.result-own.ensures 1)) c.in_ok-number.ensures.lowered))
+    (subst (λ (n : ℕ). IsLowered c.args.net.now c.lower.new.net
+    (conversion_of (attributes_of c.args.design.checked.now.diagram) c.args.place.block c.args.one.now
+    c.args.full) (c.args.product ∷ []) n) (sym (ap (λ (e : Entry). e.net) c.plain.ensures))
+    (rw (← (c.result-own.ensures 1)) c.in_ok-number.ensures.lowered))
     (ap (λ (e : Entry). e.multiply) c.plain.ensures)
 
 pub result-own-requires : goal.result-own-requires

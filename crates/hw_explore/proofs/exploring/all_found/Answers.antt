@@ -28,7 +28,9 @@ returns g c =
     let places = chain.1 ∙ (λ i. nat_range (ends.0 i) (ends.1 i)) ∙ ap (range_with_len 0) whole in
     let xs = c.in_ok-rows.ensures.0 in
     let given = subst
-    (λ (r : Result (Vec Finding Global) OutOfMemory). MatchResult r (λ v. (ys : List Finding) × (xs ≡ map Ok ys) × (v.items ≡ ys)) (λ e. Contains xs (Err e))) c.in_ok-rows-2.was c.in_ok-rows.ensures.2 in
+    (λ (r : Result (Vec Finding Global) OutOfMemory). MatchResult r
+    (λ v. (ys : List Finding) × (xs ≡ map Ok ys) × (v.items ≡ ys)) (λ e. Contains xs (Err e)))
+    c.in_ok-rows-2.was c.in_ok-rows.ensures.2 in
     let zipped = found_all (IsFinding c.args.checked.now.diagram c.args.range) chain.0 given.0
     (subst (λ (rs : List (Result Finding OutOfMemory)). AllZip (λ place row. IfOk row (IsFinding c.args.checked.now.diagram c.args.range place)) chain.0 rs) given.1 chain.2) in
     subst (λ (numbers : List ℕ). AllZip (IsFinding c.args.checked.now.diagram c.args.range) numbers c.from_vec.result) places

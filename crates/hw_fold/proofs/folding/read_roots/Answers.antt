@@ -5,7 +5,9 @@ use Rattle.hw_fold.proofs.Result.{made-emits, made-refines, made-runs, moves}
 use Rattle.hw_fold.proofs.folding.read_roots.Goals as goal
 
 pub renumbered-requires : goal.renumbered-requires
-renumbered-requires c = subst (λ (kept : List ℕ). CanMove c.args.netlist.now kept c.args.roots.now) (sym c.requires.kept) (moves c.args.netlist.now c.requires.runs c.requires.emittable c.args.roots.now c.requires.folded)
+renumbered-requires c = subst (λ (kept : List ℕ). CanMove c.args.netlist.now kept c.args.roots.now)
+    (sym c.requires.kept)
+    (moves c.args.netlist.now c.requires.runs c.requires.emittable c.args.roots.now c.requires.folded)
 
 pub returns-clause-runs : goal.returns-clause-runs
 returns-clause-runs c = IfOk-weaker c.renumbered.result _ _

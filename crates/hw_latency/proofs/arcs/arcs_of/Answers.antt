@@ -33,7 +33,9 @@ put_control-requires c = record {
 
 pub loop-edge-preserved : goal.loop-edge-preserved
 loop-edge-preserved c =
-    line_put c.args.checked.now.diagram c.args.plan.now c.args.fed.now c.loop-edge.arcs.items c.put_arc.new.arcs.items c.loop-edge.edge-index c.as_slice-edges.result.now (record { from = 0; from_port = 0; to = 0; to_port = 0 })
+    line_put c.args.checked.now.diagram c.args.plan.now c.args.fed.now c.loop-edge.arcs.items
+    c.put_arc.new.arcs.items c.loop-edge.edge-index c.as_slice-edges.result.now
+    (record { from = 0; from_port = 0; to = 0; to_port = 0 })
     c.keeps_rules.ensures.checked.wired (c.as_slice-edges.ensures ∙ ap (λ (d : Diagram). d.edges) c.diagram-diagram.ensures) c.loop-edge-test.true c.in_ok-put_arc.ensures c.loop-edge.invariant
 
 pub loop-place-init : goal.loop-place-init
@@ -44,7 +46,9 @@ loop-place-init c =
 pub loop-place-preserved : goal.loop-place-preserved
 loop-place-preserved c =
     control_put c.args.checked.now.diagram c.args.plan.now c.args.fed.now c.loop-place.arcs.items c.put_control.new.arcs.items c.loop-place.place c.keeps_rules.ensures.checked.wired
-    (subst (λ (bs : List Block). c.loop-place.place < length bs) (c.as_slice-blocks.ensures ∙ ap (λ (d : Diagram). d.blocks) c.diagram-diagram.ensures) c.loop-place-test.true) c.in_ok-put_control.ensures c.loop-place.invariant
+    (subst (λ (bs : List Block). c.loop-place.place < length bs)
+    (c.as_slice-blocks.ensures ∙ ap (λ (d : Diagram). d.blocks) c.diagram-diagram.ensures)
+    c.loop-place-test.true) c.in_ok-put_control.ensures c.loop-place.invariant
 
 pub returns-clause-is : goal.returns-clause-is
 returns-clause-is c =
@@ -56,5 +60,7 @@ returns-clause-known c = c.loop-place.invariant.known
 
 pub overflow_cast-place : goal.overflow_cast-place
 overflow_cast-place c =
-    let blocks : length c.as_slice-blocks.result.now ≡ length c.args.checked.now.diagram.blocks = ap (λ (bs : List Block). length bs) (c.as_slice-blocks.ensures ∙ ap (λ (d : Diagram). d.blocks) c.diagram-diagram.ensures) in
+    let blocks : length c.as_slice-blocks.result.now ≡ length c.args.checked.now.diagram.blocks =
+    ap (λ (bs : List Block). length bs)
+    (c.as_slice-blocks.ensures ∙ ap (λ (d : Diagram). d.blocks) c.diagram-diagram.ensures) in
     record { fits = omega (arith, blocks, c.loop-place-test.true, c.keeps_rules.ensures.checked.wired.size) }

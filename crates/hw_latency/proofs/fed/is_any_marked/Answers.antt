@@ -7,7 +7,9 @@ use Rattle.hw_latency.specs.inner.Marks.{AreUnmarked}
 use Rattle.hw_latency.proofs.fed.is_any_marked.Goals as goal
 
 pub bounds-marks-source : goal.bounds-marks-source
-bounds-marks-source c = c.requires.below c.loop-source.source-index (get_or c.args.row.now c.loop-source.source-index 0) (slice_get-get_or c.args.row.now c.loop-source.source-index 0 c.loop-source-test.true)
+bounds-marks-source c = c.requires.below c.loop-source.source-index
+    (get_or c.args.row.now c.loop-source.source-index 0)
+    (slice_get-get_or c.args.row.now c.loop-source.source-index 0 c.loop-source-test.true)
 
 pub loop-source-init : goal.loop-source-init
 loop-source-init c = record { unmarked = λ place source below at. absurd (omega (arith, below)) }
@@ -19,7 +21,9 @@ loop-source-preserved c = record {
     | inr past ↦
         let here : c.loop-source.source-index ≡ place = omega (arith, below, past) in
         let own : get_or c.args.row.now c.loop-source.source-index 0 ≡ source =
-        same_Some (get_or c.args.row.now c.loop-source.source-index 0) source (sym (slice_get-get_or c.args.row.now c.loop-source.source-index 0 c.loop-source-test.true) ∙ ap (slice_get c.args.row.now) here ∙ at) in
+        same_Some (get_or c.args.row.now c.loop-source.source-index 0) source
+        (sym (slice_get-get_or c.args.row.now c.loop-source.source-index 0 c.loop-source-test.true)
+        ∙ ap (slice_get c.args.row.now) here ∙ at) in
         subst (λ (s : ℕ). is_marked c.args.marks.now s ≡ false) own c.if-marks-source.false
   ];
 }

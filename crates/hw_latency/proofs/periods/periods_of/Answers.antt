@@ -8,7 +8,9 @@ pub loop-block-preserved : goal.loop-block-preserved
 loop-block-preserved c =
     c.in_ok-push.ensures.items
     ∙ period_more c.args.checked.now.diagram c.loop-block.periods.items c.loop-block.block c.period.result
-    (subst (λ (bs : List Block). c.loop-block.block < length bs) (c.as_slice-count.ensures ∙ ap (λ (d : Diagram). d.blocks) c.diagram.ensures) c.loop-block-test.true) c.period.ensures c.loop-block.invariant
+    (subst (λ (bs : List Block). c.loop-block.block < length bs)
+    (c.as_slice-count.ensures ∙ ap (λ (d : Diagram). d.blocks) c.diagram.ensures) c.loop-block-test.true)
+    c.period.ensures c.loop-block.invariant
 
 pub returns : goal.returns
 returns c =

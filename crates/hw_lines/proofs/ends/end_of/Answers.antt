@@ -56,7 +56,9 @@ bridge_at-requires-clause-live c =
 
 pub bridge_at-requires-clause-from : goal.bridge_at-requires-clause-from
 bridge_at-requires-clause-from c =
-    let held : CanHold c.args.net.now (slice_index_or c.args.taps.now (c.args.one.shift / c.args.source.frame.period) 0) c.args.source.first = c.requires.held (c.args.one.shift / c.args.source.frame.period) 0 c.requires.size in
+    let held : CanHold c.args.net.now (slice_index_or c.args.taps.now
+    (c.args.one.shift / c.args.source.frame.period) 0) c.args.source.first =
+    c.requires.held (c.args.one.shift / c.args.source.frame.period) 0 c.requires.size in
     rw c.from-own.ensures held.there
 
 pub register_at-requires-clause-cycles : goal.register_at-requires-clause-cycles
@@ -69,7 +71,9 @@ pub reader_of-reader-requires : goal.reader_of-reader-requires
 reader_of-reader-requires c = omega (arith, c.requires.early, c.requires.use_is.near)
 
 pub returns-then-is_whole-clause-end : goal.returns-then-is_whole-clause-end
-returns-then-is_whole-clause-end c = rw c.from-own.ensures (whole-ends c.args.net.now c.args.source c.args.taps.now c.args.one c.requires c.tap_meets.ensures c.tap_holds.ensures (rw c.is_whole.ensures at c.if-is_whole.true))
+returns-then-is_whole-clause-end c = rw c.from-own.ensures
+    (whole-ends c.args.net.now c.args.source c.args.taps.now c.args.one c.requires c.tap_meets.ensures
+    c.tap_holds.ensures (rw c.is_whole.ensures at c.if-is_whole.true))
 
 pub returns-then-is_whole-clause-ends : goal.returns-then-is_whole-clause-ends
 returns-then-is_whole-clause-ends c = nothing-ends c.args.net.now c.args.source c.args.taps.now c.args.one c.requires
@@ -78,16 +82,23 @@ pub register_at-requires-clause-from : goal.register_at-requires-clause-from
 register_at-requires-clause-from c =
     let f : FitsSigned w128 c.args.source.first = search rules in
     let first = to_z-of_z w128 c.args.source.first f in
-    let held : CanHold c.args.net.now (slice_index_or c.args.taps.now (c.args.one.shift / c.args.source.frame.period) 0) c.args.source.first = c.requires.held (c.args.one.shift / c.args.source.frame.period) 0 c.requires.size in
+    let held : CanHold c.args.net.now (slice_index_or c.args.taps.now
+    (c.args.one.shift / c.args.source.frame.period) 0) c.args.source.first =
+    c.requires.held (c.args.one.shift / c.args.source.frame.period) 0 c.requires.size in
     rw (first, c.from-own.ensures) held
 
-registered_end : (c : goal.After-register_at) → IfOk c.register_at.result (λ number. IsEnd c.args.net.now c.register_at.new.net c.args.source c.args.taps.now c.args.one number) × OnOk c.register_at.result (Ends c.args.net.now c.register_at.new.net c.args.source c.args.taps.now c.args.one)
+registered_end : (c : goal.After-register_at)
+    → IfOk c.register_at.result (λ number. IsEnd c.args.net.now c.register_at.new.net c.args.source c.args.taps.now
+    c.args.one number) × OnOk c.register_at.result
+    (Ends c.args.net.now c.register_at.new.net c.args.source c.args.taps.now c.args.one)
 registered_end c =
     let f : FitsSigned w128 c.args.source.first = search rules in
     let first = to_z-of_z w128 c.args.source.first f in
     let r : ℕ = c.args.one.shift % c.args.source.frame.period in
     let at_slot : r * c.cycles.result - 1 ≡ r * c.args.net.now.cycles - 1 = ap (λ (x : ℕ). r * x - 1) c.cycles.ensures in
-    phase-ends c.args.net.now c.args.source c.args.taps.now c.args.one c.requires c.register_at.new.net c.register_at.result c.phase_register_meets.ensures c.if-source.true (rw c.is_whole.ensures at c.if-is_whole.false) (r * c.cycles.result - 1) at_slot
+    phase-ends c.args.net.now c.args.source c.args.taps.now c.args.one c.requires c.register_at.new.net
+    c.register_at.result c.phase_register_meets.ensures c.if-source.true
+    (rw c.is_whole.ensures at c.if-is_whole.false) (r * c.cycles.result - 1) at_slot
     (rw (c.from-own.ensures, first) at c.register_at.ensures)
 
 pub returns-then-source-clause-end : goal.returns-then-source-clause-end
@@ -96,9 +107,14 @@ returns-then-source-clause-end c = (registered_end c).0
 pub returns-then-source-clause-ends : goal.returns-then-source-clause-ends
 returns-then-source-clause-ends c = (registered_end c).1
 
-bridged_end : (c : goal.After-bridge_at) → IfOk c.bridge_at.result (λ number. IsEnd c.args.net.now c.bridge_at.new.net c.args.source c.args.taps.now c.args.one number) × OnOk c.bridge_at.result (Ends c.args.net.now c.bridge_at.new.net c.args.source c.args.taps.now c.args.one)
+bridged_end : (c : goal.After-bridge_at)
+    → IfOk c.bridge_at.result (λ number. IsEnd c.args.net.now c.bridge_at.new.net c.args.source c.args.taps.now
+    c.args.one number) × OnOk c.bridge_at.result
+    (Ends c.args.net.now c.bridge_at.new.net c.args.source c.args.taps.now c.args.one)
 bridged_end c =
-    bridge-ends c.args.net.now c.args.source c.args.taps.now c.args.one c.requires c.bridge_at.new.net c.bridge_at.result c.bridge_meets.ensures c.if-source.false (rw c.is_whole.ensures at c.if-is_whole.false) (rw (c.from-own.ensures, c.reader_of-reader.ensures) at c.bridge_at.ensures)
+    bridge-ends c.args.net.now c.args.source c.args.taps.now c.args.one c.requires c.bridge_at.new.net
+    c.bridge_at.result c.bridge_meets.ensures c.if-source.false (rw c.is_whole.ensures at c.if-is_whole.false)
+    (rw (c.from-own.ensures, c.reader_of-reader.ensures) at c.bridge_at.ensures)
 
 pub returns-clause-end : goal.returns-clause-end
 returns-clause-end c = (bridged_end c).0

@@ -10,7 +10,8 @@ pub returns-in-Some : goal.returns-in-Some
 returns-in-Some c =
     let known = rw c.reader_of-reader.ensures at (sym c.find.ensures ∙ c.in-Some.is) in
     on_ok_weaker c.push.result
-    (λ (put : c.push.new.self ≡ c.args.answers.now ++ c.in-Some.number ∷ []). known-end c.args.net.now c.args.source c.args.taps.now c.args.ends.now c.args.answers.now c.push.new.self c.args.one c.in-Some.number known put)
+    (λ (put : c.push.new.self ≡ c.args.answers.now ++ c.in-Some.number ∷ []). known-end c.args.net.now c.args.source
+    c.args.taps.now c.args.ends.now c.args.answers.now c.push.new.self c.args.one c.in-Some.number known put)
     c.push.ensures.appended
 
 pub end_of-requires : goal.end_of-requires

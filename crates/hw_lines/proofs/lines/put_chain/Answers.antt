@@ -38,20 +38,28 @@ loop-one-preserved c =
     let bound : ℕ = register_count c.args.net.now.nets + most_frames source.frame.period uses + different (parted_frames source uses) in
     let put = c.in_ok-end_at.ensures in
     rw put.answers_are
-    (done-more c.args.net.now c.loop-one.net c.end_at.new.net source uses bound c.as_slice-taps.result.now c.loop-one.ends c.end_at.new.ends c.loop-one.answers i put.number one c.loop-one.invariant at put.end put.put)
+    (done-more c.args.net.now c.loop-one.net c.end_at.new.net source uses bound c.as_slice-taps.result.now
+    c.loop-one.ends c.end_at.new.ends c.loop-one.answers i put.number one c.loop-one.invariant at put.end
+    put.put)
 
 pub loop-one-init : goal.loop-one-init
 loop-one-init c =
     let count = c.in_ok-made.ensures.few ∙ ap (λ (n : ℕ). register_count c.args.net.now.nets + n) c.most_frames.ensures in
-    rw (c.as_slice-taps.ensures, c.new-ends.ensures, c.new-answers.ensures) (done-start c.args.net.now c.taps_of.new.net c.args.source c.args.uses.now c.in_ok-made.made c.in_ok-made.ensures.taps c.in_ok-made.ensures.grown count)
+    rw (c.as_slice-taps.ensures, c.new-ends.ensures, c.new-answers.ensures)
+    (done-start c.args.net.now c.taps_of.new.net c.args.source c.args.uses.now c.in_ok-made.made
+    c.in_ok-made.ensures.taps c.in_ok-made.ensures.grown count)
 
 pub taps_of-requires-clause-room : goal.taps_of-requires-clause-room
 taps_of-requires-clause-room c = room c.args.source.frame.period c.args.net.now.cycles c.requires.source.most c.requires.high
 
 pub returns-clause-answers : goal.returns-clause-answers
 returns-clause-answers c =
-    done-answers c.args.net.now c.loop-one.net c.args.source c.args.uses.now _ c.as_slice-taps.result.now c.loop-one.ends c.loop-one.answers c.loop-one.one-index (omega (arith, c.loop-one-test.false, c.loop-one.auto.one-index-end)) c.loop-one.invariant
+    done-answers c.args.net.now c.loop-one.net c.args.source c.args.uses.now _ c.as_slice-taps.result.now
+    c.loop-one.ends c.loop-one.answers c.loop-one.one-index
+    (omega (arith, c.loop-one-test.false, c.loop-one.auto.one-index-end)) c.loop-one.invariant
 
 pub returns-clause-chained : goal.returns-clause-chained
 returns-clause-chained c =
-    done-chained c.args.net.now c.loop-one.net c.args.source c.args.uses.now _ c.as_slice-taps.result.now c.loop-one.ends c.loop-one.answers c.loop-one.one-index (omega (arith, c.loop-one-test.false, c.loop-one.auto.one-index-end)) c.loop-one.invariant refl
+    done-chained c.args.net.now c.loop-one.net c.args.source c.args.uses.now _ c.as_slice-taps.result.now
+    c.loop-one.ends c.loop-one.answers c.loop-one.one-index
+    (omega (arith, c.loop-one-test.false, c.loop-one.auto.one-index-end)) c.loop-one.invariant refl

@@ -39,7 +39,8 @@ loop-step-preserved c =
     let held = rw first at c.in_ok-last.ensures.is in
     let grown = c.in_ok-last.ensures.grown in
     let slot : c.args.source.frame.period * c.cycles.result - 1 ≡ c.args.source.frame.period * c.args.net.now.cycles - 1 = ap (λ (x : ℕ). c.args.source.frame.period * x - 1) c.cycles.ensures in
-    let next = tap-behind c.tap_steps.ensures c.args.net.now now new c.args.source c.loop-step.step c.loop-step.last (c.args.source.frame.period * c.cycles.result - 1) c.in_ok-last.last c.requires.cycles c.requires.source
+    let next = tap-behind c.tap_steps.ensures c.args.net.now now new c.args.source c.loop-step.step c.loop-step.last
+    (c.args.source.frame.period * c.cycles.result - 1) c.in_ok-last.last c.requires.cycles c.requires.source
     inv.grown.appends.extends grown.appends.extends slot tap held in
     rw c.in_ok-push-2.ensures.appended (record {
       size = length-append c.loop-step.taps (c.in_ok-last.last ∷ []) ∙ omega (arith, inv.size);
@@ -47,7 +48,9 @@ loop-step-preserved c =
           (taps-stay c.args.net.now now new c.args.source c.loop-step.taps grown.appends.extends inv.are)
           (subst (λ (i : ℕ). IsTapAt c.args.net.now new c.args.source i c.in_ok-last.last) (sym inv.size) next);
       last_is = ap (slice_get (c.loop-step.taps ++ c.in_ok-last.last ∷ [])) (sym inv.size) ∙ last_at c.loop-step.taps c.in_ok-last.last;
-      grown = grows-trans c.args.net.now now new c.args.source.from c.loop-step.last ⊥ ⊥ (λ (other : Frame). other ≡ c.args.source.frame) (λ (other : Frame). other ≡ c.args.source.frame) (λ none. none) (λ frame same. same)
+      grown = grows-trans c.args.net.now now new c.args.source.from c.loop-step.last ⊥ ⊥
+          (λ (other : Frame). other ≡ c.args.source.frame) (λ (other : Frame). other ≡ c.args.source.frame)
+          (λ none. none) (λ frame same. same)
           (tap-named c.args.net.now now c.args.source c.loop-step.step c.loop-step.last tap) inv.grown grown;
       few = omega (arith, c.in_ok-last.ensures.few, inv.few);
     })

@@ -9,7 +9,9 @@ pub returns-then-from : goal.returns-then-from
 returns-then-from c =
     made-map (λ numbers. numbers c.bit_within-then-from.result.place ≡ pos (bit_of (numbers c.args.from.place) c.args.place)) c.bit_within-then-from.ensures
     (λ numbers has p.
-    let own : InWord c.args.from.word.width true (numbers c.args.from.place) = subst (λ (s : Bool). InWord c.args.from.word.width s (numbers c.args.from.place)) c.if-from.true (has c.args.from c.requires) in
+    let own : InWord c.args.from.word.width true (numbers c.args.from.place) =
+    subst (λ (s : Bool). InWord c.args.from.word.width s (numbers c.args.from.place)) c.if-from.true
+    (has c.args.from c.requires) in
     p ∙ ap pos (bit-past c.args.from.word.width c.args.place (numbers c.args.from.place) own c.if-place-from.false))
 
 pub returns : goal.returns
@@ -17,5 +19,7 @@ returns c =
     made-map (λ numbers. numbers c.constant.result.place ≡ pos (bit_of (numbers c.args.from.place) c.args.place)) (rw c.bit_word.ensures at c.constant.ensures)
     (λ numbers has p.
     let valid : IsWord c.args.from.word.width false = subst (λ (s : Bool). IsWord c.args.from.word.width s) c.if-from.false c.requires.valid in
-    let own : InWord c.args.from.word.width false (numbers c.args.from.place) = subst (λ (s : Bool). InWord c.args.from.word.width s (numbers c.args.from.place)) c.if-from.false (has c.args.from c.requires) in
+    let own : InWord c.args.from.word.width false (numbers c.args.from.place) =
+    subst (λ (s : Bool). InWord c.args.from.word.width s (numbers c.args.from.place)) c.if-from.false
+    (has c.args.from c.requires) in
     p ∙ ap pos (sym (bit-none c.args.from.word.width c.args.place (numbers c.args.from.place) valid own c.if-place-from.false)))

@@ -10,8 +10,13 @@ use Rattle.hw_lower.proofs.comparing.against.Goals as goal
 pub returns : goal.returns
 returns c =
     let own = to_z-of_z w128 c.args.threshold c.ranges.threshold in
-    made-then (λ numbers. IsSwitched (compares c.args.operator (numbers c.args.of.control.place) c.args.threshold) (numbers c.args.of.first.place) (numbers c.args.of.other.place) (numbers c.choose.result.place)) (made-both c.constant-bound.ensures c.compare-test.ensures) c.choose.ensures
-    (λ numbers has later p q. switched-is (compares c.args.operator (numbers c.args.of.control.place) c.args.threshold) (numbers c.compare-test.result.place) (numbers c.args.of.first.place) (numbers c.args.of.other.place) (numbers c.choose.result.place) (rw own at (rw p.0 at p.1)) q)
+    made-then (λ numbers. IsSwitched (compares c.args.operator (numbers c.args.of.control.place) c.args.threshold)
+    (numbers c.args.of.first.place) (numbers c.args.of.other.place) (numbers c.choose.result.place))
+    (made-both c.constant-bound.ensures c.compare-test.ensures) c.choose.ensures
+    (λ numbers has later p q. switched-is
+    (compares c.args.operator (numbers c.args.of.control.place) c.args.threshold)
+    (numbers c.compare-test.result.place) (numbers c.args.of.first.place) (numbers c.args.of.other.place)
+    (numbers c.choose.result.place) (rw own at (rw p.0 at p.1)) q)
 
 pub constant-bound-requires-clause-word : goal.constant-bound-requires-clause-word
 constant-bound-requires-clause-word c = c.requires.control.valid

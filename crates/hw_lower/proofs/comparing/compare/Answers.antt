@@ -14,12 +14,18 @@ returns-in-Gt c = rw c.in-Gt.is (told-bit (λ numbers. int_lt (numbers c.args.ot
 
 pub returns-in-Ne : goal.returns-in-Ne
 returns-in-Ne c =
-    rw c.in-Ne.is (told-opposite (λ numbers. int_eq (numbers c.args.one.place) (numbers c.args.other.place)) (λ numbers. not (int_eq (numbers c.args.one.place) (numbers c.args.other.place))) (λ numbers. refl) c.opposite.ensures)
+    rw c.in-Ne.is (told-opposite (λ numbers. int_eq (numbers c.args.one.place) (numbers c.args.other.place))
+    (λ numbers. not (int_eq (numbers c.args.one.place) (numbers c.args.other.place)))
+    (λ numbers. refl) c.opposite.ensures)
 
 pub returns-in-Le : goal.returns-in-Le
 returns-in-Le c =
-    rw c.in-Le.is (told-opposite (λ numbers. int_lt (numbers c.args.other.place) (numbers c.args.one.place)) (λ numbers. int_le (numbers c.args.one.place) (numbers c.args.other.place)) (λ numbers. not-less (numbers c.args.other.place) (numbers c.args.one.place)) c.opposite-in-Le.ensures)
+    rw c.in-Le.is (told-opposite (λ numbers. int_lt (numbers c.args.other.place) (numbers c.args.one.place))
+    (λ numbers. int_le (numbers c.args.one.place) (numbers c.args.other.place))
+    (λ numbers. not-less (numbers c.args.other.place) (numbers c.args.one.place)) c.opposite-in-Le.ensures)
 
 pub returns-in-Ge : goal.returns-in-Ge
 returns-in-Ge c =
-    rw c.in-Ge.is (told-opposite (λ numbers. int_lt (numbers c.args.one.place) (numbers c.args.other.place)) (λ numbers. int_le (numbers c.args.other.place) (numbers c.args.one.place)) (λ numbers. not-less (numbers c.args.one.place) (numbers c.args.other.place)) c.opposite-in-Ge.ensures)
+    rw c.in-Ge.is (told-opposite (λ numbers. int_lt (numbers c.args.one.place) (numbers c.args.other.place))
+    (λ numbers. int_le (numbers c.args.other.place) (numbers c.args.one.place))
+    (λ numbers. not-less (numbers c.args.one.place) (numbers c.args.other.place)) c.opposite-in-Ge.ensures)

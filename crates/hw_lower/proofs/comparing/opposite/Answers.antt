@@ -15,7 +15,11 @@ inverse-requires-clause-word c = c.binary-bit.ensures.has_word ∙ c.bit_word.en
 
 pub returns : goal.returns
 returns c =
-    made-then (λ numbers. (told : Bool) → of_two c.args.op numbers c.args.one c.args.other ≡ truth told → numbers c.inverse.result.place ≡ stored_truth (not told)) (rw c.bit_word.ensures at c.binary-bit.ensures) c.inverse.ensures
+    made-then (λ numbers. (told : Bool) → of_two c.args.op numbers c.args.one c.args.other ≡ truth told
+    → numbers c.inverse.result.place ≡ stored_truth (not told))
+    (rw c.bit_word.ensures at c.binary-bit.ensures) c.inverse.ensures
     (λ numbers has later p q told is.
-    let bit : numbers c.binary-bit.result.place ≡ stored_truth told = truth-is told (numbers c.binary-bit.result.place) (subst (λ (z : ℤ). IsWrapped z 1 false (numbers c.binary-bit.result.place)) is p) in
+    let bit : numbers c.binary-bit.result.place ≡ stored_truth told =
+    truth-is told (numbers c.binary-bit.result.place)
+    (subst (λ (z : ℤ). IsWrapped z 1 false (numbers c.binary-bit.result.place)) is p) in
     q ∙ ap (λ (z : ℤ). pos 1 -ℤ z) bit ∙ not-truth told)

@@ -20,7 +20,9 @@ returns-in-Above c =
 pub returns-in-NotZero : goal.returns-in-NotZero
 returns-in-NotZero c =
     rw c.in-NotZero.is
-    (made-map (λ numbers. IsSwitched (not (int_eq (numbers c.args.of.control.place) (pos 0))) (numbers c.args.of.first.place) (numbers c.args.of.other.place) (numbers c.choose.result.place)) c.choose.ensures
+    (made-map (λ numbers. IsSwitched (not (int_eq (numbers c.args.of.control.place) (pos 0)))
+    (numbers c.args.of.first.place) (numbers c.args.of.other.place) (numbers c.choose.result.place))
+    c.choose.ensures
     (λ numbers has p. not-zero-is (numbers c.args.of.control.place) (numbers c.args.of.first.place) (numbers c.args.of.other.place) (numbers c.choose.result.place) p))
 
 pub against-requires : goal.against-requires

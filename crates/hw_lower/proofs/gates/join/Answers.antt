@@ -25,5 +25,7 @@ returns-in-Any c =
 pub returns-in-Odd : goal.returns-in-Odd
 returns-in-Odd c =
     rw c.in-Odd.is
-    (made-then (λ numbers. IsChosen (numbers c.args.test.place) (pos 1 -ℤ numbers c.args.bit.place) (numbers c.args.bit.place) (numbers c.choose-in-Odd.result.place)) c.inverse-other.ensures (rw c.bit_word-in-Odd.ensures at c.choose-in-Odd.ensures)
+    (made-then (λ numbers. IsChosen (numbers c.args.test.place) (pos 1 -ℤ numbers c.args.bit.place)
+    (numbers c.args.bit.place) (numbers c.choose-in-Odd.result.place)) c.inverse-other.ensures
+    (rw c.bit_word-in-Odd.ensures at c.choose-in-Odd.ensures)
     (λ numbers has later p q. record { zero = q.zero; any = λ h. q.any h ∙ p }))

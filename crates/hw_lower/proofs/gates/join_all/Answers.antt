@@ -24,10 +24,14 @@ loop-input-preserved c =
     let i : ℕ = c.loop-input.input in
     let inside : i < length c.args.types.now = omega (arith, c.loop-input-test.true) in
     let chosen = rw c.argument_of-one.ensures at c.join-bit.ensures in
-    made-map (λ numbers. OfArguments c.args.types.now numbers (λ values. numbers c.join-bit.result.place ≡ stored_truth (truth_of c.args.joining (take (i + 1) values)))) (made-both c.loop-input.invariant chosen)
+    made-map (λ numbers. OfArguments c.args.types.now numbers
+    (λ values. numbers c.join-bit.result.place ≡ stored_truth (truth_of c.args.joining (take (i + 1) values))))
+    (made-both c.loop-input.invariant chosen)
     (λ numbers has p. joined-more c.args.types.now numbers c.args.joining i (numbers c.loop-input.bit.place) (numbers c.join-bit.result.place) inside p.0 p.1)
 
 pub returns : goal.returns
 returns c =
     made-map (λ numbers. OfArguments c.args.types.now numbers (λ values. numbers c.loop-input.bit.place ≡ stored_truth (truth_of c.args.joining values))) c.loop-input.invariant
-    (λ numbers has p. of-all c.args.types.now numbers (λ (values : List ℤ). numbers c.loop-input.bit.place ≡ stored_truth (truth_of c.args.joining values)) c.loop-input.input (omega (arith, c.loop-input-test.false)) p)
+    (λ numbers has p. of-all c.args.types.now numbers
+    (λ (values : List ℤ). numbers c.loop-input.bit.place ≡ stored_truth (truth_of c.args.joining values))
+    c.loop-input.input (omega (arith, c.loop-input-test.false)) p)

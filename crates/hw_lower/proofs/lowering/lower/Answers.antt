@@ -34,7 +34,10 @@ plan_operation-result-requires c = record { arguments = inputs-there c.inputs_of
 pub put_nets-requires : goal.put_nets-requires
 put_nets-requires c =
     let spread = c.plan_operation-result.ensures.spreads c.in_ok-steps.ensures.0 in
-    rw (c.as_slice.ensures, c.in_ok-steps.ensures.1) (can-put c.args.net.now c.args.call.now.types.now c.args.args.now c.inputs_of-plan.result.steps c.plan_operation-result.new.plan.steps (multiply_of c.args.call.now.op) c.requires.args (c.inputs_of-plan.ensures.are spread.0) spread.1)
+    rw (c.as_slice.ensures, c.in_ok-steps.ensures.1)
+    (can-put c.args.net.now c.args.call.now.types.now c.args.args.now c.inputs_of-plan.result.steps
+    c.plan_operation-result.new.plan.steps (multiply_of c.args.call.now.op) c.requires.args
+    (c.inputs_of-plan.ensures.are spread.0) spread.1)
 
 pub index-requires : goal.index-requires
 index-requires c =
@@ -45,7 +48,8 @@ index-requires c =
 pub returns-clause-lowers : goal.returns-clause-lowers
 returns-clause-lowers c =
     let here = (goal.at.returns-clause-lowers c).After-index in
-    lowers c.args.net.now c.put_nets.new.net c.args.args.now c.inputs_of-plan.result.steps c.in_ok-steps.steps (operation_of c.args.call.now) c.plan_operation-result.result (put_down here) (result_at here)
+    lowers c.args.net.now c.put_nets.new.net c.args.args.now c.inputs_of-plan.result.steps c.in_ok-steps.steps
+    (operation_of c.args.call.now) c.plan_operation-result.result (put_down here) (result_at here)
 
 pub returns-clause-lowered : goal.returns-clause-lowered
 returns-clause-lowered c =
@@ -58,4 +62,5 @@ returns-clause-lowered c =
     let value = get_or_from_slice_get c.in_ok-numbers.numbers.items made.place (number_of c.args.args.now base made.place) c.index.result.now (are.each made.place inside) in
     let gives = rw (sym c.in_ok-steps.ensures.1) at (c.plan_operation-result.ensures.gives.give c.in_ok-steps.ensures.0) in
     subst (λ (n : ℕ). IsLowered c.args.net.now c.put_nets.new.net (operation_of c.args.call.now) c.args.args.now n) (sym (c.index.ensures ∙ value))
-    (lowered c.args.net.now c.put_nets.new.net c.args.args.now c.inputs_of-plan.result.steps c.in_ok-steps.steps (operation_of c.args.call.now) made (put_down here) at c.plan_operation-result.ensures.has_word gives)
+    (lowered c.args.net.now c.put_nets.new.net c.args.args.now c.inputs_of-plan.result.steps c.in_ok-steps.steps
+    (operation_of c.args.call.now) made (put_down here) at c.plan_operation-result.ensures.has_word gives)

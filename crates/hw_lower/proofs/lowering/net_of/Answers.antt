@@ -9,7 +9,10 @@ loop-place-init c = c.new-args.ensures
 pub returns : goal.returns
 returns c =
     let places : List ℕ = c.args.step.first ∷ c.args.step.second ∷ c.args.step.third ∷ [] in
-    let args : c.loop-place.args ≡ map (λ place. slice_index_or c.args.numbers.now place 0) (take c.arity.result places) = c.loop-place.invariant ∙ ap (map (λ place. slice_index_or c.args.numbers.now place 0)) (take_all c.loop-place.place-index _ c.loop-place-test.false) in
+    let args : c.loop-place.args ≡ map (λ place. slice_index_or c.args.numbers.now place 0)
+    (take c.arity.result places) = c.loop-place.invariant
+    ∙ ap (map (λ place. slice_index_or c.args.numbers.now place 0))
+    (take_all c.loop-place.place-index _ c.loop-place-test.false) in
     ap (λ (read : List ℕ). record { signed = c.args.step.word.signed; width = c.args.step.word.width; kind = Comb c.args.step.op read })
     (args ∙ ap (λ (count : ℕ). map (λ place. slice_index_or c.args.numbers.now place 0) (take count places)) c.arity.ensures)
 

@@ -11,6 +11,8 @@ returns c =
     made-map (λ numbers. IsChosen (numbers c.args.test.place) (numbers c.args.chosen.place) (numbers c.args.other.place) (numbers c.operation.result.place)) c.operation.ensures
     (λ numbers has p.
     let valid : IsWord c.args.word.width c.args.word.signed = subst (λ (w : Word). IsWord w.width w.signed) c.requires.word c.requires.chosen.valid in
-    let own : InWord c.args.word.width c.args.word.signed (numbers c.args.chosen.place) = subst (λ (w : Word). InWord w.width w.signed (numbers c.args.chosen.place)) c.requires.word (has c.args.chosen c.requires.chosen) in
+    let own : InWord c.args.word.width c.args.word.signed (numbers c.args.chosen.place) =
+    subst (λ (w : Word). InWord w.width w.signed (numbers c.args.chosen.place)) c.requires.word
+    (has c.args.chosen c.requires.chosen) in
     chosen-is c.args.word.width c.args.word.signed (numbers c.args.test.place) (numbers c.args.chosen.place) (numbers c.args.other.place) (numbers c.operation.result.place) valid own
     (λ e. c.requires.fits numbers e (has c.args.other c.requires.other)) p)

@@ -28,7 +28,9 @@ convert_to_result-requires-clause-high c =
 pub returns : goal.returns
 returns c =
     let f = frac_is (goal.at.returns c).After-frac-frac in
-    made-map (λ numbers. IsConverted (operation_of c.args.call.now) (numbers c.args.input) (type_of c.args.call.now.types.now c.args.input) (numbers c.convert_to_result.result.place)) (rw (c.argument_of-from.ensures, f) at c.convert_to_result.ensures)
+    made-map (λ numbers. IsConverted (operation_of c.args.call.now) (numbers c.args.input)
+    (type_of c.args.call.now.types.now c.args.input) (numbers c.convert_to_result.result.place))
+    (rw (c.argument_of-from.ensures, f) at c.convert_to_result.ensures)
     (λ numbers has p. p (type_of c.args.call.now.types.now c.args.input) refl)
 
 pub convert_to_result-requires-clause-result : goal.convert_to_result-requires-clause-result

@@ -20,13 +20,17 @@ full_frac c =
     let full = c.requires.full.0 in
     let is_full = c.requires.full.1 in
     let e : frac_of full ≡ c.frac.result +ℤ c.frac-2.result = rw (c.frac.ensures, c.frac-2.ensures) is_full.frac in
-    frac_sum c.frac.result c.frac-2.result (frac_of full) (record { sfits = c.frac.type_inv }) (record { sfits = c.frac-2.type_inv }) e (frac_bounds full is_full.valid).0 (frac_bounds full is_full.valid).1
+    frac_sum c.frac.result c.frac-2.result (frac_of full) (record { sfits = c.frac.type_inv })
+    (record { sfits = c.frac-2.type_inv }) e (frac_bounds full is_full.valid).0
+    (frac_bounds full is_full.valid).1
 
 pub convert_to_result-requires-clause-at : goal.convert_to_result-requires-clause-at
 convert_to_result-requires-clause-at c =
     let full : FxType = c.requires.full.0 in
     let word : c.product_word-word.result ≡ word_of full = c.product_word-word.ensures full c.requires.full.1 in
-    (multiplied-put _ _ c.args.one.from c.args.other.from c.product_word-word.result c.multiply-exact.result c.requires.one c.requires.other (subst (λ (w : Word). IsWord w.width w.signed) (sym word) (type-word full c.requires.full.1.valid)) c.multiply-exact.ensures).at
+    (multiplied-put _ _ c.args.one.from c.args.other.from c.product_word-word.result c.multiply-exact.result
+    c.requires.one c.requires.other (subst (λ (w : Word). IsWord w.width w.signed) (sym word)
+    (type-word full c.requires.full.1.valid)) c.multiply-exact.ensures).at
 
 pub convert_to_result-requires-clause-low : goal.convert_to_result-requires-clause-low
 convert_to_result-requires-clause-low c = rw (full_frac (goal.at.convert_to_result-requires-clause-low c).After-frac-2) (frac_bounds c.requires.full.0 c.requires.full.1.valid).0
@@ -40,12 +44,18 @@ returns c =
     let word : c.product_word-word.result ≡ word_of full = c.product_word-word.ensures full c.requires.full.1 in
     let put = rw word at c.multiply-exact.ensures in
     let multiplied = multiplied-put _ _ c.args.one.from c.args.other.from (word_of full) c.multiply-exact.result c.requires.one c.requires.other (type-word full c.requires.full.1.valid) put in
-    made-after (λ numbers. InRange c.args.one.kind (numbers c.args.one.from.place) → InRange c.args.other.kind (numbers c.args.other.from.place) → IsScaled (operation_of c.args.call.now) c.args.one.kind c.args.other.kind (numbers c.args.one.from.place) (numbers c.args.other.from.place) (numbers c.convert_to_result.result.place))
+    made-after (λ numbers. InRange c.args.one.kind (numbers c.args.one.from.place)
+    → InRange c.args.other.kind (numbers c.args.other.from.place)
+    → IsScaled (operation_of c.args.call.now) c.args.one.kind c.args.other.kind
+    (numbers c.args.one.from.place) (numbers c.args.other.from.place)
+    (numbers c.convert_to_result.result.place))
     multiplied c.convert_to_result.ensures
     (λ numbers w p first second. record {
       full = full;
       is_full = c.requires.full.1;
       converted = subst (λ (z : ℤ). IsConverted (operation_of c.args.call.now) z full (numbers c.convert_to_result.result.place))
-          (product-is c.args.one.kind c.args.other.kind full (numbers c.args.one.from.place) (numbers c.args.other.from.place) c.requires.left c.requires.right first second c.requires.full.1 (numbers c.multiply-exact.result.place) w)
+          (product-is c.args.one.kind c.args.other.kind full (numbers c.args.one.from.place)
+          (numbers c.args.other.from.place) c.requires.left c.requires.right first second c.requires.full.1
+          (numbers c.multiply-exact.result.place) w)
           (p full (sym (full_frac (goal.at.returns c).After-frac-2)));
     })

@@ -5,4 +5,6 @@ use Rattle.hw_lower.proofs.Accumulator.{GoesOn}
 use Rattle.hw_lower.proofs.planning.plan_accumulated.Given as goal
 
 abbrev pub invariant-loop-input : goal.invariant-loop-input
-invariant-loop-input l = IsMade l.fn.plan l.plan (word_of l.accum) (λ numbers. OfArguments l.call.types.now numbers (λ values. GoesOn (operation_of l.call) l.accum values l.input (numbers l.total.place))) l.total
+invariant-loop-input l = IsMade l.fn.plan l.plan (word_of l.accum)
+    (λ numbers. OfArguments l.call.types.now numbers
+    (λ values. GoesOn (operation_of l.call) l.accum values l.input (numbers l.total.place))) l.total

@@ -35,15 +35,23 @@ pub returns-in-Sum-Some : goal.returns-in-Sum-Some
 returns-in-Sum-Some c =
     let is : c.args.call.now.op ≡ Sum (Some c.in-Sum-Some.accum) = search rules in
     plan-of (operation_of c.args.call.now) (Sum (Some c.in-Sum-Some.accum)) is
-    (made-plain (λ numbers. OfArguments c.args.call.now.types.now numbers (λ values. Gives (Sum (Some c.in-Sum-Some.accum)) (operation_of c.args.call.now) c.args.call.now.types.now values (numbers c.plan_accumulated.result.place))) c.plan_accumulated.ensures
+    (made-plain (λ numbers. OfArguments c.args.call.now.types.now numbers
+    (λ values. Gives (Sum (Some c.in-Sum-Some.accum))
+    (operation_of c.args.call.now) c.args.call.now.types.now values
+    (numbers c.plan_accumulated.result.place))) c.plan_accumulated.ensures
     (λ numbers p values are. subst (λ (o : Op). Gives o (operation_of c.args.call.now) c.args.call.now.types.now values (numbers c.plan_accumulated.result.place)) is (p values are)))
 
 pub returns-in-Switch : goal.returns-in-Switch
 returns-in-Switch c =
     let own : to_z w128 (of_z w128 c.in-Switch.threshold) ≡ c.in-Switch.threshold = to_z-of_z w128 c.in-Switch.threshold (search rules) in
     plan-of (operation_of c.args.call.now) (Switch c.in-Switch.criterion c.in-Switch.threshold) c.in-Switch.is
-    (made-plain (λ numbers. OfArguments c.args.call.now.types.now numbers (λ values. Gives (Switch c.in-Switch.criterion c.in-Switch.threshold) (operation_of c.args.call.now) c.args.call.now.types.now values (numbers c.plan_switch.result.place))) c.plan_switch.ensures
-    (λ numbers p values are. subst (λ (t : ℤ). Gives (Switch c.in-Switch.criterion t) (operation_of c.args.call.now) c.args.call.now.types.now values (numbers c.plan_switch.result.place)) own (p values are)))
+    (made-plain (λ numbers. OfArguments c.args.call.now.types.now numbers
+    (λ values. Gives (Switch c.in-Switch.criterion c.in-Switch.threshold)
+    (operation_of c.args.call.now) c.args.call.now.types.now values (numbers c.plan_switch.result.place)))
+    c.plan_switch.ensures
+    (λ numbers p values are. subst (λ (t : ℤ). Gives (Switch c.in-Switch.criterion t)
+    (operation_of c.args.call.now) c.args.call.now.types.now values (numbers c.plan_switch.result.place)) own
+    (p values are)))
 
 pub returns-in-Convert : goal.returns-in-Convert
 returns-in-Convert c = plan-plain (operation_of c.args.call.now) (Convert c.in-Convert.stored) c.args.call.now.result c.in-Convert.is refl refl c.plan_conversion.ensures
@@ -52,14 +60,19 @@ pub returns-in-Gain : goal.returns-in-Gain
 returns-in-Gain c =
     let own : to_z w128 (of_z w128 c.in-Gain.coefficient) ≡ c.in-Gain.coefficient = to_z-of_z w128 c.in-Gain.coefficient (search rules) in
     plan-of (operation_of c.args.call.now) (Gain c.in-Gain.coefficient c.in-Gain.param) c.in-Gain.is
-    (planned-map (λ numbers. OfArguments c.args.call.now.types.now numbers (λ values. Gives (Gain c.in-Gain.coefficient c.in-Gain.param) (operation_of c.args.call.now) c.args.call.now.types.now values (numbers c.plan_gain.result.place))) c.plan_gain.ensures
+    (planned-map (λ numbers. OfArguments c.args.call.now.types.now numbers
+    (λ values. Gives (Gain c.in-Gain.coefficient c.in-Gain.param)
+    (operation_of c.args.call.now) c.args.call.now.types.now values (numbers c.plan_gain.result.place)))
+    c.plan_gain.ensures
     (λ numbers p values are. let is = p values are in
     (is.full, is.is_full, subst (λ (t : ℤ). IsConverted (operation_of c.args.call.now) (value_of values 0 *ℤ t) is.full (numbers c.plan_gain.result.place)) own is.converted)))
 
 pub returns-in-Product : goal.returns-in-Product
 returns-in-Product c =
     plan-of (operation_of c.args.call.now) Product c.in-Product.is
-    (planned-map (λ numbers. OfArguments c.args.call.now.types.now numbers (λ values. Gives Product (operation_of c.args.call.now) c.args.call.now.types.now values (numbers c.plan_product.result.place))) c.plan_product.ensures
+    (planned-map (λ numbers. OfArguments c.args.call.now.types.now numbers
+    (λ values. Gives Product (operation_of c.args.call.now) c.args.call.now.types.now values
+    (numbers c.plan_product.result.place))) c.plan_product.ensures
     (λ numbers p values are. let is = p values are in (is.full, is.is_full, is.converted)))
 
 pub returns-in-Relational : goal.returns-in-Relational
@@ -83,11 +96,15 @@ argument_of-requires-clause-few c = few-inputs c.args.call.now.op (length c.args
 pub returns-in-Pass : goal.returns-in-Pass
 returns-in-Pass c =
     let one = one-passed c.args.call.now.op (length c.args.call.now.types.now) c.in-Pass.is c.requires.prepared.arity in
-    let type : c.args.call.now.result ≡ (type_of c.args.call.now.types.now 0) = subst (λ (op : Op). HasResultType op c.args.call.now.types.now c.args.call.now.result) c.in-Pass.is c.requires.prepared.result_type in
+    let type : c.args.call.now.result ≡ (type_of c.args.call.now.types.now 0) =
+    subst (λ (op : Op). HasResultType op c.args.call.now.types.now c.args.call.now.result) c.in-Pass.is
+    c.requires.prepared.result_type in
     rw c.argument_of.ensures
     (plan-typed (operation_of c.args.call.now) Pass (type_of c.args.call.now.types.now 0) c.in-Pass.is type
     (made-plain (λ numbers. OfArguments c.args.call.now.types.now numbers (λ values. Gives Pass (operation_of c.args.call.now) c.args.call.now.types.now values (numbers 0)))
-    (made-self (λ numbers. OfArguments c.args.call.now.types.now numbers (λ values. numbers 0 ≡ value_of values 0)) (c.requires.arguments.each 0 (omega (arith, one))) (λ numbers has values are. are.each 0 (omega (arith, one)))) (λ numbers p. p)))
+    (made-self (λ numbers. OfArguments c.args.call.now.types.now numbers (λ values. numbers 0 ≡ value_of values 0))
+    (c.requires.arguments.each 0 (omega (arith, one)))
+    (λ numbers has values are. are.each 0 (omega (arith, one)))) (λ numbers p. p)))
 
 pub gate-requires : goal.gate-requires
 gate-requires c = record {

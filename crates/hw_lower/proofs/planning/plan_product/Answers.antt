@@ -22,9 +22,15 @@ convert_product-requires-clause-full c = rw (c.side_of-one.ensures, c.side_of-ot
 
 pub returns : goal.returns
 returns c =
-    planned-map (λ numbers. OfArguments c.args.call.now.types.now numbers (λ values. IsScaled (operation_of c.args.call.now) (type_of c.args.call.now.types.now 0) (type_of c.args.call.now.types.now 1) (value_of values 0) (value_of values 1) (numbers c.convert_product.result.place))) (rw (c.side_of-one.ensures, c.side_of-other.ensures) at c.convert_product.ensures)
+    planned-map (λ numbers. OfArguments c.args.call.now.types.now numbers
+    (λ values. IsScaled (operation_of c.args.call.now) (type_of c.args.call.now.types.now 0)
+    (type_of c.args.call.now.types.now 1) (value_of values 0) (value_of values 1)
+    (numbers c.convert_product.result.place)))
+    (rw (c.side_of-one.ensures, c.side_of-other.ensures) at c.convert_product.ensures)
     (λ numbers q values are.
-    scaled-at (operation_of c.args.call.now) (type_of c.args.call.now.types.now 0) (type_of c.args.call.now.types.now 1) (numbers 0) (numbers 1) (value_of values 0) (value_of values 1) (numbers c.convert_product.result.place)
+    scaled-at (operation_of c.args.call.now) (type_of c.args.call.now.types.now 0)
+    (type_of c.args.call.now.types.now 1) (numbers 0) (numbers 1) (value_of values 0) (value_of values 1)
+    (numbers c.convert_product.result.place)
     (are.each 0 (omega (arith, c.requires.two))) (are.each 1 (omega (arith, c.requires.two)))
     (q (range-at c.args.call.now.types.now numbers values 0 are (omega (arith, c.requires.two))) (range-at c.args.call.now.types.now numbers values 1 are (omega (arith, c.requires.two)))))
 

@@ -13,5 +13,9 @@ convert-requires-clause-to c = rw c.without_frac-to.ensures (without-type c.args
 
 pub returns : goal.returns
 returns c =
-    made-map (λ numbers. Converts (numbers 0) (without_frac (type_of c.args.call.now.types.now 0)) (without_frac c.args.call.now.result) c.args.call.now.rounding c.args.call.now.saturate (numbers c.convert.result.place)) (rw (c.without_frac-to.ensures, c.argument_of-from.ensures, without-word c.args.call.now.result) at c.convert.ensures)
+    made-map (λ numbers. Converts (numbers 0) (without_frac (type_of c.args.call.now.types.now 0))
+    (without_frac c.args.call.now.result) c.args.call.now.rounding c.args.call.now.saturate
+    (numbers c.convert.result.place)) (rw
+    (c.without_frac-to.ensures, c.argument_of-from.ensures, without-word c.args.call.now.result) at
+    c.convert.ensures)
     (λ numbers has p. p (without_frac (type_of c.args.call.now.types.now 0)) (without-none (type_of c.args.call.now.types.now 0)))

@@ -29,7 +29,12 @@ convert_to_result-requires-clause-high c =
 pub returns : goal.returns
 returns c =
     let f = frac_is (goal.at.returns c).After-frac in
-    made-then (λ numbers. OfArguments c.args.call.now.types.now numbers (λ values. (full : FxType) × IsFullSum (zip c.args.call.now.signs.now c.args.call.now.types.now) full × IsConverted (operation_of c.args.call.now) (signed_sum (frac_of full) (zip c.args.call.now.signs.now c.args.call.now.types.now) values) full (numbers c.convert_to_result.result.place))) c.sum_arguments-exact.ensures (rw f at c.convert_to_result.ensures)
+    made-then (λ numbers. OfArguments c.args.call.now.types.now numbers
+    (λ values. (full : FxType) × IsFullSum (zip c.args.call.now.signs.now c.args.call.now.types.now) full
+    × IsConverted (operation_of c.args.call.now)
+    (signed_sum (frac_of full) (zip c.args.call.now.signs.now c.args.call.now.types.now) values) full
+    (numbers c.convert_to_result.result.place))) c.sum_arguments-exact.ensures
+    (rw f at c.convert_to_result.ensures)
     (λ numbers has later p q values are. (
       c.sum_type-full.result,
       c.sum_type-full.ensures,
@@ -37,7 +42,15 @@ returns c =
     ))
 
 pub sum_arguments-exact-requires-clause-terms : goal.sum_arguments-exact-requires-clause-terms
-sum_arguments-exact-requires-clause-terms c = record { arguments = c.requires.can.arguments; signed = c.requires.signs; some = c.requires.some; few = c.requires.few; valid = c.requires.can.prepared.types }
+sum_arguments-exact-requires-clause-terms c =
+    record {
+      arguments = c.requires.can.arguments;
+      signed =
+          c.requires.signs;
+      some = c.requires.some;
+      few = c.requires.few;
+      valid = c.requires.can.prepared.types;
+    }
 
 pub convert_to_result-requires-clause-result : goal.convert_to_result-requires-clause-result
 convert_to_result-requires-clause-result c = c.requires.can.prepared.result

@@ -25,5 +25,7 @@ align-requires c =
 pub returns : goal.returns
 returns c =
     let f = frac_is (goal.at.returns c).After-frac in
-    made-map (λ numbers. InRange c.args.side.kind (numbers c.args.side.from.place) → numbers c.align.result.place ≡ aligned (frac_of c.args.holder) c.args.side.kind (numbers c.args.side.from.place)) (rw (c.word_of.ensures, f) at c.align.ensures)
+    made-map (λ numbers. InRange c.args.side.kind (numbers c.args.side.from.place)
+    → numbers c.align.result.place ≡ aligned (frac_of c.args.holder) c.args.side.kind
+    (numbers c.args.side.from.place)) (rw (c.word_of.ensures, f) at c.align.ensures)
     (λ numbers has p range. held-is c.args.holder c.args.side.kind (numbers c.args.side.from.place) (numbers c.align.result.place) c.requires.valid c.requires.holds p range)

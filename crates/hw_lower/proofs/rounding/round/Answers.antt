@@ -11,5 +11,7 @@ returns-else-from c =
     rw c.in-Zero.is
     (made-map (λ numbers. Rounds Zero (numbers c.args.from.place) (2 ^ c.args.by) (numbers c.down-else-from.result.place)) c.down-else-from.ensures
     (λ numbers has p.
-    let own : InWord c.args.from.word.width false (numbers c.args.from.place) = subst (λ (s : Bool). InWord c.args.from.word.width s (numbers c.args.from.place)) c.if-from.false (has c.args.from c.requires.at) in
+    let own : InWord c.args.from.word.width false (numbers c.args.from.place) =
+    subst (λ (s : Bool). InWord c.args.from.word.width s (numbers c.args.from.place)) c.if-from.false
+    (has c.args.from c.requires.at) in
     zero-down (numbers c.args.from.place) c.args.by c.args.from.word.width (numbers c.down-else-from.result.place) own p))

@@ -14,7 +14,9 @@ returns c =
     (λ numbers has later p q.
     let bit : InWord 1 false (numbers c.args.carry.place) = subst (λ (w : Word). InWord w.width w.signed (numbers c.args.carry.place)) c.requires.bit (has c.args.carry c.requires.one) in
     wrapped-is (shifted_down (numbers c.args.from.place) c.args.by +ℤ numbers c.args.carry.place) c.args.from.word.width c.args.from.word.signed (numbers c.binary.result.place) c.requires.at.valid
-    (carried-in-word c.args.from.word.width c.args.from.word.signed (numbers c.args.from.place) c.args.by (numbers c.args.carry.place) c.requires.at.valid (has c.args.from c.requires.at) c.requires.some (bit-cases (numbers c.args.carry.place) bit))
+    (carried-in-word c.args.from.word.width c.args.from.word.signed (numbers c.args.from.place) c.args.by
+    (numbers c.args.carry.place) c.requires.at.valid (has c.args.from c.requires.at) c.requires.some
+    (bit-cases (numbers c.args.carry.place) bit))
     (rw p at q))
 
 pub binary-requires-clause-one : goal.binary-requires-clause-one

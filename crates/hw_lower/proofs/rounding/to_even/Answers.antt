@@ -8,7 +8,10 @@ use Rattle.hw_lower.proofs.rounding.to_even.Goals as goal
 
 pub round_by_carry-requires : goal.round_by_carry-requires
 round_by_carry-requires c = record {
-  at = at-later _ _ c.args.from c.past_tie-carry.ensures.grows (at-later _ _ c.args.from c.both-tie.ensures.grows (at-later _ _ c.args.from c.bit-odd.ensures.grows (at-later _ _ c.args.from c.bit-half.ensures.grows c.requires.at)));
+  at = at-later _ _ c.args.from c.past_tie-carry.ensures.grows
+      (at-later _ _ c.args.from c.both-tie.ensures.grows
+      (at-later _ _ c.args.from c.bit-odd.ensures.grows
+      (at-later _ _ c.args.from c.bit-half.ensures.grows c.requires.at)));
   one = c.past_tie-carry.ensures.at;
   bit = c.past_tie-carry.ensures.has_word;
   some = c.requires.some;
@@ -26,8 +29,13 @@ past_tie-carry-requires c = record {
 
 pub returns : goal.returns
 returns c =
-    made-then (λ numbers. Rounds Convergent (numbers c.args.from.place) (2 ^ c.args.by) (numbers c.round_by_carry.result.place)) (made-both c.bit-half.ensures (made-both c.bit-odd.ensures (made-both c.both-tie.ensures c.past_tie-carry.ensures))) c.round_by_carry.ensures
-    (λ numbers has later p q. convergent-rounds (numbers c.args.from.place) c.args.by c.requires.some (numbers c.bit-half.result.place) (numbers c.bit-odd.result.place) (numbers c.both-tie.result.place) (numbers c.past_tie-carry.result.place)
+    made-then (λ numbers. Rounds Convergent (numbers c.args.from.place) (2 ^ c.args.by)
+    (numbers c.round_by_carry.result.place))
+    (made-both c.bit-half.ensures (made-both c.bit-odd.ensures
+    (made-both c.both-tie.ensures c.past_tie-carry.ensures))) c.round_by_carry.ensures
+    (λ numbers has later p q. convergent-rounds (numbers c.args.from.place) c.args.by c.requires.some
+    (numbers c.bit-half.result.place) (numbers c.bit-odd.result.place) (numbers c.both-tie.result.place)
+    (numbers c.past_tie-carry.result.place)
     (numbers c.round_by_carry.result.place) p.0 p.1.0 p.1.1.0 p.1.1.1 q)
 
 pub bit-odd-requires : goal.bit-odd-requires

@@ -23,10 +23,17 @@ both-carry-requires-clause-test c = at-later _ _ c.lowest-low.result c.bit-sign.
 
 pub returns : goal.returns
 returns c =
-    made-then (λ numbers. Rounds Zero (numbers c.args.from.place) (2 ^ c.args.by) (numbers c.round_by_carry.result.place)) (made-both c.lowest-low.ensures (made-both c.bit-sign.ensures c.both-carry.ensures)) c.round_by_carry.ensures
+    made-then (λ numbers. Rounds Zero (numbers c.args.from.place) (2 ^ c.args.by)
+    (numbers c.round_by_carry.result.place))
+    (made-both c.lowest-low.ensures (made-both c.bit-sign.ensures c.both-carry.ensures))
+    c.round_by_carry.ensures
     (λ numbers has later p q.
-    let own : InWord c.args.from.word.width true (numbers c.args.from.place) = subst (λ (s : Bool). InWord c.args.from.word.width s (numbers c.args.from.place)) c.requires.signed (has c.args.from c.requires.can.at) in
-    zero-rounds (numbers c.args.from.place) c.args.by c.args.from.word.width (numbers c.lowest-low.result.place) (numbers c.bit-sign.result.place) (numbers c.both-carry.result.place) (numbers c.round_by_carry.result.place) own p.0 p.1.0 p.1.1 q)
+    let own : InWord c.args.from.word.width true (numbers c.args.from.place) =
+    subst (λ (s : Bool). InWord c.args.from.word.width s (numbers c.args.from.place)) c.requires.signed
+    (has c.args.from c.requires.can.at) in
+    zero-rounds (numbers c.args.from.place) c.args.by c.args.from.word.width (numbers c.lowest-low.result.place)
+    (numbers c.bit-sign.result.place) (numbers c.both-carry.result.place)
+    (numbers c.round_by_carry.result.place) own p.0 p.1.0 p.1.1 q)
 
 pub both-carry-requires-clause-bit : goal.both-carry-requires-clause-bit
 both-carry-requires-clause-bit c = c.bit-sign.ensures.at

@@ -16,8 +16,12 @@ round_by_carry-requires c = record {
 
 pub returns : goal.returns
 returns c =
-    made-then (λ numbers. Rounds Ceiling (numbers c.args.from.place) (2 ^ c.args.by) (numbers c.round_by_carry.result.place)) (made-both c.lowest-low.ensures c.truth-carry.ensures) c.round_by_carry.ensures
-    (λ numbers has later p q. ceiling-rounds (numbers c.args.from.place) c.args.by (numbers c.lowest-low.result.place) (numbers c.truth-carry.result.place) (numbers c.round_by_carry.result.place) p.0 p.1 q)
+    made-then (λ numbers. Rounds Ceiling (numbers c.args.from.place) (2 ^ c.args.by)
+    (numbers c.round_by_carry.result.place))
+    (made-both c.lowest-low.ensures c.truth-carry.ensures) c.round_by_carry.ensures
+    (λ numbers has later p q. ceiling-rounds (numbers c.args.from.place) c.args.by
+    (numbers c.lowest-low.result.place) (numbers c.truth-carry.result.place)
+    (numbers c.round_by_carry.result.place) p.0 p.1 q)
 
 pub truth-carry-requires : goal.truth-carry-requires
 truth-carry-requires c = c.lowest-low.ensures.at

@@ -17,7 +17,10 @@ returns-then-behind-frac c =
     let difference : x ≡ c.in-Num.behind -ℤ c.args.frac = omega (arith, ints, to_type.1, to_type.2, c.requires.low, c.requires.high) in
     let order : c.args.frac ≤ℤ c.in-Num.behind = omega (arith, ints, to_type.1, to_type.2, c.requires.low, c.requires.high, c.if-behind-frac.true) in
     rw c.in-Num.is
-    (made-map (λ numbers. (kind : FxType) → frac_of kind ≡ c.args.frac → Converts (numbers c.args.from.place) kind (Num c.in-Num.signed c.in-Num.width c.in-Num.behind) c.args.mode c.args.saturate (numbers c.settle.result.place)) c.settle.ensures
+    (made-map (λ numbers. (kind : FxType) → frac_of kind ≡ c.args.frac
+    → Converts (numbers c.args.from.place) kind
+    (Num c.in-Num.signed c.in-Num.width c.in-Num.behind) c.args.mode c.args.saturate
+    (numbers c.settle.result.place)) c.settle.ensures
     (λ numbers has p kind e. converts-up (numbers c.args.from.place) kind c.in-Num.signed c.in-Num.width c.in-Num.behind c.args.mode c.args.saturate (numbers c.settle.result.place) (nat_abs x)
     (rw e (gap_is c.args.frac c.in-Num.behind x order difference)) (rw e (gap_none c.in-Num.behind c.args.frac order)) (p c.in-Num.behind)))
 
@@ -28,8 +31,13 @@ returns c =
     let difference : x ≡ c.args.frac -ℤ c.in-Num.behind = omega (arith, ints, to_type.1, to_type.2, c.requires.low, c.requires.high) in
     let order : c.in-Num.behind ≤ℤ c.args.frac = omega (arith, ints, to_type.1, to_type.2, c.requires.low, c.requires.high, c.if-behind-frac.false) in
     rw c.in-Num.is
-    (made-map (λ numbers. (kind : FxType) → frac_of kind ≡ c.args.frac → Converts (numbers c.args.from.place) kind (Num c.in-Num.signed c.in-Num.width c.in-Num.behind) c.args.mode c.args.saturate (numbers c.settle_quotient.result.place)) c.settle_quotient.ensures
-    (λ numbers has p kind e. converts-down (numbers c.args.from.place) kind c.in-Num.signed c.in-Num.width c.in-Num.behind c.args.mode c.args.saturate (numbers c.settle_quotient.result.place) (nat_abs x)
+    (made-map (λ numbers. (kind : FxType) → frac_of kind ≡ c.args.frac
+    → Converts (numbers c.args.from.place) kind
+    (Num c.in-Num.signed c.in-Num.width c.in-Num.behind) c.args.mode c.args.saturate
+    (numbers c.settle_quotient.result.place)) c.settle_quotient.ensures
+    (λ numbers has p kind e. converts-down
+    (numbers c.args.from.place) kind c.in-Num.signed c.in-Num.width c.in-Num.behind c.args.mode c.args.saturate
+    (numbers c.settle_quotient.result.place) (nat_abs x)
     (rw e (gap_is c.in-Num.behind c.args.frac x order difference)) (rw e (gap_none c.args.frac c.in-Num.behind order)) (p c.in-Num.behind)))
 
 pub settle-requires-clause-at : goal.settle-requires-clause-at

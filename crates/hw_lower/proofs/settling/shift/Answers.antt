@@ -9,7 +9,9 @@ use Rattle.hw_lower.proofs.settling.shift.Goals as goal
 pub returns-then-eq : goal.returns-then-eq
 returns-then-eq c =
     let same : c.args.from.word ≡ c.args.word = same-words c.args.from.word c.args.word (sym c.if-eq.ensures) in
-    subst (λ (w : Word). IsMade c.args.plan.now c.args.plan.now w (λ numbers. IsWrapped (numbers c.args.from.place *ℤ pos (2 ^ c.args.up)) w.width w.signed (numbers c.args.from.place)) c.args.from) same
+    subst (λ (w : Word). IsMade c.args.plan.now c.args.plan.now w
+    (λ numbers. IsWrapped (numbers c.args.from.place *ℤ pos (2 ^ c.args.up)) w.width w.signed
+    (numbers c.args.from.place)) c.args.from) same
     (made-self (λ numbers. IsWrapped (numbers c.args.from.place *ℤ pos (2 ^ c.args.up)) c.args.from.word.width c.args.from.word.signed (numbers c.args.from.place)) c.requires.at
     (λ numbers has. none-shifted (numbers c.args.from.place) c.args.up c.args.from.word.width c.args.from.word.signed (omega (arith, c.if-up-gt0.false)) (has c.args.from c.requires.at)))
 

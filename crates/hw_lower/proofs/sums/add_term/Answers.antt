@@ -13,15 +13,27 @@ pub returns-then-negative : goal.returns-then-negative
 returns-then-negative c =
     let f = to_z-of_z w16 c.args.frac c.ranges.frac in
     let value = rw f at c.align-value.ensures in
-    made-then (λ numbers. IsWrapped (numbers c.args.total.place +ℤ negated_if c.args.negative (aligned c.args.frac c.args.side.kind (numbers c.args.side.from.place))) c.args.word.width c.args.word.signed (numbers c.binary.result.place)) value c.binary.ensures
-    (λ numbers has later p q. rw c.if-negative.true (wrapped-difference (numbers c.args.total.place) (aligned c.args.frac c.args.side.kind (numbers c.args.side.from.place)) (numbers c.align-value.result.place) (numbers c.binary.result.place) c.args.word.width c.args.word.signed p q))
+    made-then (λ numbers. IsWrapped (numbers c.args.total.place +ℤ negated_if c.args.negative
+    (aligned c.args.frac c.args.side.kind (numbers c.args.side.from.place))) c.args.word.width
+    c.args.word.signed (numbers c.binary.result.place)) value c.binary.ensures
+    (λ numbers has later p q. rw c.if-negative.true
+    (wrapped-difference (numbers c.args.total.place)
+    (aligned c.args.frac c.args.side.kind (numbers c.args.side.from.place))
+    (numbers c.align-value.result.place)
+    (numbers c.binary.result.place) c.args.word.width c.args.word.signed p q))
 
 pub returns : goal.returns
 returns c =
     let f = to_z-of_z w16 c.args.frac c.ranges.frac in
     let value = rw f at c.align-value.ensures in
-    made-then (λ numbers. IsWrapped (numbers c.args.total.place +ℤ negated_if c.args.negative (aligned c.args.frac c.args.side.kind (numbers c.args.side.from.place))) c.args.word.width c.args.word.signed (numbers c.binary-2.result.place)) value c.binary-2.ensures
-    (λ numbers has later p q. rw c.if-negative.false (wrapped-sum (numbers c.args.total.place) (aligned c.args.frac c.args.side.kind (numbers c.args.side.from.place)) (numbers c.align-value.result.place) (numbers c.binary-2.result.place) c.args.word.width c.args.word.signed p q))
+    made-then (λ numbers. IsWrapped (numbers c.args.total.place +ℤ negated_if c.args.negative
+    (aligned c.args.frac c.args.side.kind (numbers c.args.side.from.place))) c.args.word.width
+    c.args.word.signed (numbers c.binary-2.result.place)) value c.binary-2.ensures
+    (λ numbers has later p q. rw c.if-negative.false
+    (wrapped-sum (numbers c.args.total.place)
+    (aligned c.args.frac c.args.side.kind (numbers c.args.side.from.place))
+    (numbers c.align-value.result.place)
+    (numbers c.binary-2.result.place) c.args.word.width c.args.word.signed p q))
 
 pub binary-requires-clause-one : goal.binary-requires-clause-one
 binary-requires-clause-one c = at-later _ _ c.args.total c.align-value.ensures.grows c.requires.total

@@ -24,13 +24,20 @@ returns-then-signs c =
     let f = to_z-of_z w16 c.args.frac c.ranges.frac in
     let value = rw (c.side_of-side.ensures, f) at c.align-value.ensures in
     made-then (λ numbers. IsTotal c.args.frac c.args.signs.now c.args.types.now c.args.word.width c.args.word.signed numbers 1 (numbers c.unary.result.place)) value c.unary.ensures
-    (λ numbers has later p q. total-first c.args.frac c.args.signs.now c.args.types.now c.args.word.width c.args.word.signed numbers c.requires.terms.signed (numbers c.unary.result.place) c.requires.terms.some
-    (subst (λ (negative : Bool). IsWrapped (negated_if negative (aligned c.args.frac (type_of c.args.types.now 0) (numbers 0))) c.args.word.width c.args.word.signed (numbers c.unary.result.place)) (sym c.if-signs.true)
+    (λ numbers has later p q. total-first c.args.frac c.args.signs.now c.args.types.now c.args.word.width
+    c.args.word.signed numbers c.requires.terms.signed (numbers c.unary.result.place) c.requires.terms.some
+    (subst (λ (negative : Bool). IsWrapped
+    (negated_if negative (aligned c.args.frac (type_of c.args.types.now 0) (numbers 0))) c.args.word.width
+    c.args.word.signed (numbers c.unary.result.place)) (sym c.if-signs.true)
     (wrapped-negative (aligned c.args.frac (type_of c.args.types.now 0) (numbers 0)) (numbers c.align-value.result.place) (numbers c.unary.result.place) c.args.word.width c.args.word.signed p q)))
 
 pub returns : goal.returns
 returns c =
     let f = to_z-of_z w16 c.args.frac c.ranges.frac in
-    made-map (λ numbers. IsTotal c.args.frac c.args.signs.now c.args.types.now c.args.word.width c.args.word.signed numbers 1 (numbers c.align-value.result.place)) (rw (c.side_of-side.ensures, f) at c.align-value.ensures)
-    (λ numbers has p. total-first c.args.frac c.args.signs.now c.args.types.now c.args.word.width c.args.word.signed numbers c.requires.terms.signed (numbers c.align-value.result.place) c.requires.terms.some
-    (subst (λ (negative : Bool). IsWrapped (negated_if negative (aligned c.args.frac (type_of c.args.types.now 0) (numbers 0))) c.args.word.width c.args.word.signed (numbers c.align-value.result.place)) (sym c.if-signs.false) p))
+    made-map (λ numbers. IsTotal c.args.frac c.args.signs.now c.args.types.now c.args.word.width c.args.word.signed
+    numbers 1 (numbers c.align-value.result.place)) (rw (c.side_of-side.ensures, f) at c.align-value.ensures)
+    (λ numbers has p. total-first c.args.frac c.args.signs.now c.args.types.now c.args.word.width c.args.word.signed
+    numbers c.requires.terms.signed (numbers c.align-value.result.place) c.requires.terms.some
+    (subst (λ (negative : Bool). IsWrapped
+    (negated_if negative (aligned c.args.frac (type_of c.args.types.now 0) (numbers 0))) c.args.word.width
+    c.args.word.signed (numbers c.align-value.result.place)) (sym c.if-signs.false) p))

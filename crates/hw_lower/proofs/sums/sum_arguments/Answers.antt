@@ -51,10 +51,20 @@ loop-input-preserved c =
     let f = own_frac (goal.at.loop-input-preserved c).After-frac-frac in
     let i : ℕ = c.loop-input.input in
     let inside : i < length c.args.types.now = omega (arith, c.loop-input-test.true) in
-    made-map (λ numbers. IsTotal (frac_of c.args.full) c.args.signs.now c.args.types.now (width_of c.args.full) (is_signed c.args.full) numbers (i + 1) (numbers c.add_term-total.result.place)) (made-both c.loop-input.invariant (rw (c.side_of-side.ensures, c.word_of-word.ensures, f) at c.add_term-total.ensures))
-    (λ numbers has p. total-more (frac_of c.args.full) c.args.signs.now c.args.types.now (width_of c.args.full) (is_signed c.args.full) numbers c.requires.terms.signed i (numbers c.loop-input.total.place) (numbers c.add_term-total.result.place) inside p.0 p.1)
+    made-map (λ numbers. IsTotal (frac_of c.args.full) c.args.signs.now c.args.types.now (width_of c.args.full)
+    (is_signed c.args.full) numbers (i + 1) (numbers c.add_term-total.result.place))
+    (made-both c.loop-input.invariant
+    (rw (c.side_of-side.ensures, c.word_of-word.ensures, f) at c.add_term-total.ensures))
+    (λ numbers has p. total-more (frac_of c.args.full) c.args.signs.now c.args.types.now (width_of c.args.full)
+    (is_signed c.args.full) numbers c.requires.terms.signed i (numbers c.loop-input.total.place)
+    (numbers c.add_term-total.result.place) inside p.0 p.1)
 
 pub returns : goal.returns
 returns c =
-    made-map (λ numbers. OfArguments c.args.types.now numbers (λ values. numbers c.loop-input.total.place ≡ signed_sum (frac_of c.args.full) (zip c.args.signs.now c.args.types.now) values)) c.loop-input.invariant
-    (λ numbers has p. total-is c.args.signs.now c.args.types.now c.args.full numbers c.loop-input.input (numbers c.loop-input.total.place) c.requires.terms.signed c.requires.full (omega (arith, c.loop-input-test.false)) p)
+    made-map (λ numbers. OfArguments c.args.types.now numbers
+    (λ values. numbers c.loop-input.total.place
+    ≡ signed_sum (frac_of c.args.full) (zip c.args.signs.now c.args.types.now) values))
+    c.loop-input.invariant
+    (λ numbers has p. total-is c.args.signs.now c.args.types.now c.args.full numbers c.loop-input.input
+    (numbers c.loop-input.total.place) c.requires.terms.signed c.requires.full
+    (omega (arith, c.loop-input-test.false)) p)

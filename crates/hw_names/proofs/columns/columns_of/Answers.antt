@@ -22,7 +22,9 @@ loop-left-preserved c =
     let inside : block < c.args.count = c.requires left 0 below in (
       omega (arith, most),
       length-set columns block c.in-Ok.number ∙ size,
-      subst (λ (n : ℕ). AreColumnsFrom inputs (slice_set columns block n) left) (sym number) (columns_more inputs columns left block are (slice_get-get_or inputs left 0 below) (omega (arith, inside, size))),
+      subst (λ (n : ℕ). AreColumnsFrom inputs (slice_set columns block n) left) (sym number)
+          (columns_more inputs columns left block are (slice_get-get_or inputs left 0 below)
+          (omega (arith, inside, size))),
     )
 
 pub returns-clause-least : goal.returns-clause-least

@@ -11,11 +11,15 @@ use Rattle.hw_names.proofs.giving.put_names.Goals.{In-Ok}
 pub columns_of-requires : goal.columns_of-requires
 columns_of-requires c =
     let blocks : c.as_slice.result.now ≡ c.args.checked.now.diagram.blocks = c.as_slice.ensures ∙ ap (λ (d : Diagram). d.blocks) c.diagram.ensures in
-    subst (λ (bs : List Block). All (λ block. block < length bs) c.args.blocks.now) (sym blocks) (there_on c.args.checked.now.diagram c.args.side c.args.blocks.now c.keeps_rules.ensures.checked c.root_elements_are_listed.ensures.inputs c.root_elements_are_listed.ensures.outputs c.requires)
+    subst (λ (bs : List Block). All (λ block. block < length bs) c.args.blocks.now) (sym blocks)
+    (there_on c.args.checked.now.diagram c.args.side c.args.blocks.now c.keeps_rules.ensures.checked
+    c.root_elements_are_listed.ensures.inputs c.root_elements_are_listed.ensures.outputs c.requires)
 
 -- the element of the column at hand
 element : (c : In-Ok) → AtColumn c.args.checked.now.diagram c.args.side c.args.blocks.now c.loop-column.column
-element c = column_on c.args.checked.now.diagram c.args.side c.args.blocks.now c.loop-column.column c.keeps_rules.ensures.checked c.root_elements_are_listed.ensures.inputs c.root_elements_are_listed.ensures.outputs c.requires c.loop-column-test.true
+element c = column_on c.args.checked.now.diagram c.args.side c.args.blocks.now c.loop-column.column
+    c.keeps_rules.ensures.checked c.root_elements_are_listed.ensures.inputs
+    c.root_elements_are_listed.ensures.outputs c.requires c.loop-column-test.true
 
 -- its block is there, and has a first column
 block : (c : In-Ok) → slice_index_or c.args.blocks.now c.loop-column.column 0 < length c.args.checked.now.diagram.blocks
@@ -38,7 +42,9 @@ offset_bounds-firsts-block c = let low = first (goal.at.offset_bounds-firsts-blo
 pub overflow_sub-element : goal.overflow_sub-element
 overflow_sub-element c =
     let column = element (goal.at.overflow_sub-element c).In-Ok in
-    let here = element_on c.args.checked.now.diagram c.args.side c.args.blocks.now c.in_ok-columns.columns.items c.as_slice-firsts.result.now c.loop-column.column column c.in_ok-columns.ensures.least c.as_slice-firsts.ensures.value in
+    let here = element_on c.args.checked.now.diagram c.args.side c.args.blocks.now c.in_ok-columns.columns.items
+    c.as_slice-firsts.result.now c.loop-column.column column c.in_ok-columns.ensures.least
+    c.as_slice-firsts.ensures.value in
     let number : c.in-Ok.number ≡ c.loop-column.column = c.in-Ok.ensures.1 in
     omega (arith, here, number)
 
@@ -60,7 +66,9 @@ loop-column-preserved c =
     let element_is : c.in-Ok.number - first ≡ column.e.element = omega (arith, here, number) in
     let added = c.in_ok-put_name.ensures in
     let path = path_is diagram block c.block_at.result.now c.block_at.ensures in
-    let given = given_to diagram c.args.side c.loop-column.names c.put_name.new.names column.e block c.width_of-width.result (c.in-Ok.number - first) c.block_at.result.now.path added.name column.block_is path c.width_of-width.ensures element_is added.given in
+    let given = given_to diagram c.args.side c.loop-column.names c.put_name.new.names column.e block
+    c.width_of-width.result (c.in-Ok.number - first) c.block_at.result.now.path added.name column.block_is path
+    c.width_of-width.ensures element_is added.given in
     subst (λ (texts : List (List ℕ)). AddsNames diagram c.args.side c.args.names.now c.put_name.new.names c.args.texts.now texts (k + 1)) (sym added.is)
     (names_more diagram c.args.side c.args.names.now c.loop-column.names c.put_name.new.names c.args.texts.now c.loop-column.texts k column.e added.name c.loop-column.invariant column.at given)
 

@@ -7,5 +7,7 @@ use Rattle.hw_names.proofs.giving.stream_names.Goals as goal
 pub returns : goal.returns
 returns c = record {
   names = IfOk-weaker c.names_beside.result _ _ (λ texts given. record { given = given (handshake_names ++ own_names) c.in_ok-of_stream.ensures }) c.names_beside.ensures;
-  size = IfOk-weaker c.names_beside.result _ _ (λ texts given. given_size (handshake_names ++ own_names) (wanted_names c.args.checked.now.diagram) texts (given (handshake_names ++ own_names) c.in_ok-of_stream.ensures)) c.names_beside.ensures;
+  size = IfOk-weaker c.names_beside.result _ _
+      (λ texts given. given_size (handshake_names ++ own_names) (wanted_names c.args.checked.now.diagram) texts
+      (given (handshake_names ++ own_names) c.in_ok-of_stream.ensures)) c.names_beside.ensures;
 }

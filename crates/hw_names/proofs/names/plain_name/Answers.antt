@@ -2,7 +2,8 @@ use Rattle.std.proofs.Common.{◌≡◌, ◌+◌, ◌∷◌, ◌++◌, List, ℕ
 use Rattle.std.proofs.lemmas.Bool.{ne_eqb}
 use Rattle.hw_names.specs.Names.{plain_byte, undoubled}
 use Rattle.hw_names.proofs.Plain.{all_put, left_on, put_on, second_stays, other_stays}
-use Rattle.hw_names.proofs.names.plain_name.Goals.{then-byte-eq47+then-not-is_second, else-byte-eq47+in_ok-push, else-byte-eq47-via-then-byte-eq47+else-not-is_second, else-byte-eq47-via-else-byte-eq47}
+use Rattle.hw_names.proofs.names.plain_name.Goals.{then-byte-eq47+then-not-is_second, else-byte-eq47+in_ok-push, else-byte-eq47-via-then-byte-eq47+else-not-is_second}
+use Rattle.hw_names.proofs.names.plain_name.Goals.{else-byte-eq47-via-else-byte-eq47}
 use Rattle.hw_names.proofs.names.plain_name.Goals as goal
 
 pub loop-byte-init : goal.loop-byte-init
@@ -25,7 +26,9 @@ loop-byte-preserved c =
             | else-byte-eq47-via-else-byte-eq47 w' ↦
                 other_stays c.loop-byte.is_second (get_or path i 0) (drop (i + 1) path) (ne_eqb (get_or path i 0) 47 (λ e. let differs = w'.if-byte-eq47.false in omega (arith, differs, e)))
           ] in
-          rw (w.name-is, w.is_second-is) (put_on c.loop-byte.name.items c.loop-byte.is_second path whole i c.loop-byte-test.true c.loop-byte.invariant w.plain_byte.result w.push.new.self.items stays w.plain_byte.ensures w.in_ok-push.ensures.items)
+          rw (w.name-is, w.is_second-is) (put_on c.loop-byte.name.items c.loop-byte.is_second path whole i
+          c.loop-byte-test.true c.loop-byte.invariant w.plain_byte.result w.push.new.self.items stays
+          w.plain_byte.ensures w.in_ok-push.ensures.items)
     ]
 
 pub returns : goal.returns

@@ -6,12 +6,18 @@ use Rattle.hw_order.proofs.order.link_net.Goals as goal
 
 pub returns-in-Comb-clause-knows : goal.returns-in-Comb-clause-knows
 returns-in-Comb-clause-knows c =
-    subst (λ (kind : NetKind). OnOk c.link_all.result (All (λ (read : ℕ). IsReader c.link_all.new.readers read c.args.reader) (reads_now kind))) (sym c.in-Comb.is) (rw c.as_slice.ensures at c.link_all.ensures.knows)
+    subst (λ (kind : NetKind). OnOk c.link_all.result
+    (All (λ (read : ℕ). IsReader c.link_all.new.readers read c.args.reader) (reads_now kind)))
+    (sym c.in-Comb.is) (rw c.as_slice.ensures at c.link_all.ensures.knows)
 
 pub returns-in-Bridge-clause-knows : goal.returns-in-Bridge-clause-knows
 returns-in-Bridge-clause-knows c =
-    subst (λ (kind : NetKind). OnOk c.link_all-in-Bridge.result (All (λ (read : ℕ). IsReader c.link_all-in-Bridge.new.readers read c.args.reader) (reads_now kind))) (sym c.in-Bridge.is) c.link_all-in-Bridge.ensures.knows
+    subst (λ (kind : NetKind). OnOk c.link_all-in-Bridge.result
+    (All (λ (read : ℕ). IsReader c.link_all-in-Bridge.new.readers read c.args.reader) (reads_now kind)))
+    (sym c.in-Bridge.is) c.link_all-in-Bridge.ensures.knows
 
 pub returns-in-Unit-clause-knows : goal.returns-in-Unit-clause-knows
 returns-in-Unit-clause-knows c =
-    subst (λ (kind : NetKind). OnOk c.link_all-in-Unit.result (All (λ (read : ℕ). IsReader c.link_all-in-Unit.new.readers read c.args.reader) (reads_now kind))) (sym c.in-Unit.is) c.link_all-in-Unit.ensures.knows
+    subst (λ (kind : NetKind). OnOk c.link_all-in-Unit.result
+    (All (λ (read : ℕ). IsReader c.link_all-in-Unit.new.readers read c.args.reader) (reads_now kind)))
+    (sym c.in-Unit.is) c.link_all-in-Unit.ensures.knows

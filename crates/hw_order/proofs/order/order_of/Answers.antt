@@ -13,6 +13,8 @@ pub returns : goal.returns
 returns c =
     let nets : List Net = c.args.net.now.nets in
     let there = all-now-there nets c.requires.there in
-    if-both (λ order. IsGrowing nets order.items c.rank_nets.new.ranks) (λ order. IsClosed nets c.rank_nets.new.ranks (length order.items) (length nets)) (λ order. IsOrder nets order.items) c.rank_nets.result
+    if-both (λ order. IsGrowing nets order.items c.rank_nets.new.ranks)
+    (λ order. IsClosed nets c.rank_nets.new.ranks (length order.items) (length nets))
+    (λ order. IsOrder nets order.items) c.rank_nets.result
     (rw c.nets-nets.ensures at c.rank_nets.ensures.growing) (rw c.nets-nets.ensures at c.rank_nets.ensures.closed)
     (λ order growing closed. order-of nets order.items c.rank_nets.new.ranks growing closed there c.requires.ranked.0 c.requires.ranked.1)

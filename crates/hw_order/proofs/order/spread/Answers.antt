@@ -17,10 +17,14 @@ loop-done-preserved c =
     let known-at : c.index.result.now < length c.args.readers.now = omega (arith, at, known, c.requires.size) in
     let one = read-at c.args.readers.now c.index.result.now c.index-readers-index.result [] known-at c.index-readers-index.is in
     let list-is : c.as_slice-list.result.now ≡ slice_index_or c.args.readers.now place [] = c.as_slice-list.ensures ∙ one ∙ ap (λ (k : ℕ). slice_index_or c.args.readers.now k []) at in
-    let served = λ (k : ℕ) (is : IsReader c.args.readers.now place k). All-contains (Serves c.args.nets.now c.loop-done.ranks c.visit_all.new.ranks) c.as_slice-list.result.now k ens.placed (subst (λ (xs : List ℕ). Contains xs k) (sym list-is) is.among) in
+    let served = λ (k : ℕ) (is : IsReader c.args.readers.now place k). All-contains
+    (Serves c.args.nets.now c.loop-done.ranks c.visit_all.new.ranks) c.as_slice-list.result.now k ens.placed
+    (subst (λ (xs : List ℕ). Contains xs k) (sym list-is) is.among) in
     record {
       growing = ens.visited.growing;
-      closed = closed-next c.args.nets.now order c.visit_all.new.order.items c.loop-done.ranks c.visit_all.new.ranks inv.growing ens.visited.growing ens.visited.longer ens.visited.kept c.args.readers.now done early c.requires.linked inv.closed served;
+      closed = closed-next c.args.nets.now order c.visit_all.new.order.items c.loop-done.ranks c.visit_all.new.ranks
+          inv.growing ens.visited.growing ens.visited.longer ens.visited.kept c.args.readers.now done early
+          c.requires.linked inv.closed served;
       within = omega (arith, ens.visited.longer.size, early);
     }
 

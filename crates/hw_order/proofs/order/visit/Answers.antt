@@ -7,14 +7,19 @@ use Rattle.hw_order.proofs.order.visit.Goals as goal
 
 pub returns-then-not-is_ready-clause-placed : goal.returns-then-not-is_ready-clause-placed
 returns-then-not-is_ready-clause-placed c = record {
-  placed = λ net there reads. absurd (c.is_ready.ensures.no c.if-not-is_ready.true (one-net c.args.nets.now c.args.k c.index-nets-k.result net (λ (one : Net). All (IsPlaced c.args.ranks.now) (reads_now one.kind)) (omega arith) c.index-nets-k.is there reads));
+  placed = λ net there reads. absurd (c.is_ready.ensures.no c.if-not-is_ready.true
+      (one-net c.args.nets.now c.args.k c.index-nets-k.result net
+      (λ (one : Net). All (IsPlaced c.args.ranks.now) (reads_now one.kind))
+      (omega arith) c.index-nets-k.is there reads));
 }
 
 pub returns-clause-visited : goal.returns-clause-visited
 returns-clause-visited c =
     let e : length c.args.order.now.items ≡ c.in-Ok.rank = omega (arith, c.in-Ok.ensures, c.len.ensures) in
     let g = grown c.args.nets.now c.args.order.now.items c.args.ranks.now c.args.k (omega arith) c.requires.growing (c.is_placed.ensures.no c.if-is_placed.false)
-    (λ net there. net-one c.args.nets.now c.args.k c.index-nets-k.result net (λ (one : Net). All (IsPlaced c.args.ranks.now) (reads_now one.kind)) (omega arith) c.index-nets-k.is there (c.is_ready.ensures.yes c.if-not-is_ready.false)) in
+    (λ net there. net-one c.args.nets.now c.args.k c.index-nets-k.result net
+    (λ (one : Net). All (IsPlaced c.args.ranks.now) (reads_now one.kind)) (omega arith) c.index-nets-k.is there
+    (c.is_ready.ensures.yes c.if-not-is_ready.false)) in
     let k = kept c.args.nets.now c.args.order.now.items c.args.ranks.now c.args.k (omega arith) c.requires.growing (c.is_placed.ensures.no c.if-is_placed.false) in
     record {
       growing =

@@ -10,5 +10,8 @@ pub returns-in-Ok-check_size-clause-times : goal.returns-in-Ok-check_size-clause
 returns-in-Ok-check_size-clause-times c = record {
   latencies = c.requires.latencies;
   slots = c.in-Ok.ensures.slots;
-  size = c.in-Ok-check_size.ensures.kept c.in-Ok.slots.depths (subst (λ (ready : List ℕ). AreReady c.args.checked.now.diagram c.args.plan.now (timing_of c.args.latencies c.in-Ok.slots.depths) ready) (sym c.as_slice.ensures) c.in-Ok.ensures.slots.ready);
+  size = c.in-Ok-check_size.ensures.kept c.in-Ok.slots.depths
+      (subst (λ (ready : List ℕ). AreReady c.args.checked.now.diagram c.args.plan.now
+      (timing_of c.args.latencies c.in-Ok.slots.depths) ready)
+      (sym c.as_slice.ensures) c.in-Ok.ensures.slots.ready);
 }

@@ -6,4 +6,7 @@ use Rattle.math_num.proofs.Residues.{kept-as}
 use Rattle.hw_run.proofs.operation.shift_down.Goals as goal
 
 pub returns : goal.returns
-returns c = kept-as c.floor_quotient.result (shifted_down c.args.v c.args.places) (record { sfits = c.floor_quotient.type_inv }) (c.floor_quotient.ensures ∙ ap (λ (z : ℤ). shifted_down z c.args.places) (to_z-of_z w128 c.args.v c.ranges.v))
+returns c = kept-as c.floor_quotient.result (shifted_down c.args.v c.args.places)
+    (record { sfits = c.floor_quotient.type_inv })
+    (c.floor_quotient.ensures
+    ∙ ap (λ (z : ℤ). shifted_down z c.args.places) (to_z-of_z w128 c.args.v c.ranges.v))

@@ -23,10 +23,16 @@ loop-place-preserved c =
     rw e (record {
       same = inv.same;
       size = omega (arith, length-set c.loop-place.next place c.net_value-value.result, inv.size);
-      swept = swept-more nets c.args.order.now c.args.net.now.cycles c.args.clock (row_of c.args.inputs.now) (row_of c.args.now.now) c.requires.order c.loop-place.next i one c.net_value-value.result inv.size c.loop-place-test.true here inv.swept goes;
+      swept = swept-more nets c.args.order.now c.args.net.now.cycles c.args.clock (row_of c.args.inputs.now)
+          (row_of c.args.now.now) c.requires.order c.loop-place.next i one c.net_value-value.result inv.size
+          c.loop-place-test.true here inv.swept goes;
     })
 
 pub returns : goal.returns
 returns c =
     let done : c.loop-place.place-index ≡ length c.args.order.now = omega arith in
-    record { each = swept-all c.args.net.now.nets c.args.order.now c.args.net.now.cycles c.args.clock (row_of c.args.inputs.now) (row_of c.args.now.now) c.requires.order c.loop-place.next (rw done at c.loop-place.invariant.swept) }
+    record {
+      each = swept-all c.args.net.now.nets c.args.order.now c.args.net.now.cycles c.args.clock
+          (row_of c.args.inputs.now) (row_of c.args.now.now) c.requires.order c.loop-place.next
+          (rw done at c.loop-place.invariant.swept);
+    }

@@ -9,7 +9,10 @@ use Rattle.hw_sched.proofs.block_registers.blocks_in_all.Goals as goal
 pub loop-place-preserved : goal.loop-place-preserved
 loop-place-preserved c =
     let diagram = c.args.checked.now.diagram in
-    both_more (kept_at diagram (attributes_of diagram) c.args.plan.now) (results_at diagram (attributes_of diagram) c.args.plan.now) c.loop-place.all c.registers_at-registers.result c.from.result c.saturating_add.result c.saturating_add-all.result c.loop-place.place
+    both_more (kept_at diagram (attributes_of diagram) c.args.plan.now)
+    (results_at diagram (attributes_of diagram) c.args.plan.now) c.loop-place.all
+    c.registers_at-registers.result c.from.result c.saturating_add.result c.saturating_add-all.result
+    c.loop-place.place
     c.registers_at-registers.ensures (c.from.ensures ∙ c.results_at-results.ensures) c.saturating_add.ensures c.saturating_add-all.ensures c.loop-place.invariant
 
 pub returns : goal.returns

@@ -16,5 +16,6 @@ returns-then-is_shared c =
 
 pub returns-else-is_shared : goal.returns-else-is_shared
 returns-else-is_shared c =
-    next_is c.args.checked.now.diagram c.args.plan.now c.args.depths.now c.args.place c.lines_best-lines.result c.control_best-control.result c.max-best.result c.max-best.result c.is_shared.result false
+    next_is c.args.checked.now.diagram c.args.plan.now c.args.depths.now c.args.place c.lines_best-lines.result
+    c.control_best-control.result c.max-best.result c.max-best.result c.is_shared.result false
     c.lines_best-lines.ensures c.control_best-control.ensures c.max-best.ensures c.is_shared.ensures c.if-is_shared.false refl

@@ -24,15 +24,20 @@ pub loop-place-preserved : goal.loop-place-preserved
 loop-place-preserved c =
     let at = item_read c.args.checked.now.order c.order-place-items.result.now c.loop-place.place-index 0 c.order-place-items.ensures c.loop-place-test.true in
     let there = held (λ (place : ℕ). place < length c.args.checked.now.diagram.blocks) c.args.checked.now.order c.loop-place.place-index _ c.keeps_rules.ensures.ordered.there at in
-    depths_more c.args.checked.now.diagram c.args.plan.now c.args.checked.now.order c.keeps_rules.ensures.checked c.keeps_rules.ensures.ordered c.loop-place.place-index _ c.depth_of-depth.result c.loop-place.depths.items at there
-    (subst (λ (ds : List ℕ). IsNextDepth c.args.checked.now.diagram c.args.plan.now ds (get_or c.order-place-items.result.now c.loop-place.place-index 0) c.depth_of-depth.result) c.as_slice-in-loop-place.ensures.value c.depth_of-depth.ensures)
+    depths_more c.args.checked.now.diagram c.args.plan.now c.args.checked.now.order c.keeps_rules.ensures.checked
+    c.keeps_rules.ensures.ordered c.loop-place.place-index _ c.depth_of-depth.result c.loop-place.depths.items
+    at there
+    (subst (λ (ds : List ℕ). IsNextDepth c.args.checked.now.diagram c.args.plan.now ds
+    (get_or c.order-place-items.result.now c.loop-place.place-index 0) c.depth_of-depth.result)
+    c.as_slice-in-loop-place.ensures.value c.depth_of-depth.ensures)
     c.loop-place.invariant
 
 pub returns : goal.returns
 returns c =
     let end = subst (λ (xs : List ℕ). length xs ≤ c.loop-place.place-index) c.order-place-items.ensures c.loop-place-test.false in
     rw c.from_vec.ensures
-    (depths_end c.args.checked.now.diagram c.args.plan.now c.args.checked.now.order c.keeps_rules.ensures.checked c.keeps_rules.ensures.ordered c.loop-place.place-index c.loop-place.depths.items end c.loop-place.invariant)
+    (depths_end c.args.checked.now.diagram c.args.plan.now c.args.checked.now.order c.keeps_rules.ensures.checked
+    c.keeps_rules.ensures.ordered c.loop-place.place-index c.loop-place.depths.items end c.loop-place.invariant)
 
 pub depth_of-depth-requires-clause-there : goal.depth_of-depth-requires-clause-there
 depth_of-depth-requires-clause-there c =

@@ -20,7 +20,9 @@ line_registers-requires c =
 
 pub returns-in_default : goal.returns-in_default
 returns-in_default c =
-    ap capped (control_none c.args.checked.now.diagram (attributes_of c.args.checked.now.diagram) c.args.plan.now (timing_of c.args.latencies.now []) c.args.place c.block_at.result.now c.control_of.result c.block_at.ensures c.control_of.ensures c.in_default.is)
+    ap capped (control_none c.args.checked.now.diagram (attributes_of c.args.checked.now.diagram) c.args.plan.now
+    (timing_of c.args.latencies.now []) c.args.place c.block_at.result.now c.control_of.result
+    c.block_at.ensures c.control_of.ensures c.in_default.is)
 
 pub returns : goal.returns
 returns c =
@@ -29,5 +31,6 @@ returns c =
     let timing = timing_of c.args.latencies.now [] in
     let edge : LatencyEdge = edge_of (record { from = c.in-Some.control; from_port = 1; to = c.args.place }) in
     c.line_registers.ensures
-    ∙ ap capped (control_some diagram attributes c.args.plan.now timing c.args.place c.in-Some.control (line_at diagram attributes c.args.plan.now timing edge) c.block_at.result.now c.control_of.result edge
+    ∙ ap capped (control_some diagram attributes c.args.plan.now timing c.args.place c.in-Some.control
+    (line_at diagram attributes c.args.plan.now timing edge) c.block_at.result.now c.control_of.result edge
     c.block_at.ensures c.control_of.ensures c.in-Some.is refl refl)

@@ -18,14 +18,18 @@ line_registers-requires c =
     let es = c.as_slice-edges.ensures ∙ ap (λ (d : Diagram). d.edges) c.diagram-diagram.ensures in
     record {
       timed = c.requires;
-      there = line_there c.args.checked.now.diagram c.keeps_rules.ensures.checked c.loop-edge.edge-index _ (item_read c.args.checked.now.diagram.edges c.as_slice-edges.result.now c.loop-edge.edge-index none es c.loop-edge-test.true);
+      there = line_there c.args.checked.now.diagram c.keeps_rules.ensures.checked c.loop-edge.edge-index _
+          (item_read c.args.checked.now.diagram.edges c.as_slice-edges.result.now c.loop-edge.edge-index none es
+          c.loop-edge-test.true);
     }
 
 pub loop-place-preserved : goal.loop-place-preserved
 loop-place-preserved c =
     let bs = c.as_slice-blocks.ensures ∙ ap (λ (d : Diagram). d.blocks) c.diagram-diagram.ensures in
     let block = get_some c.args.checked.now.diagram.blocks c.loop-place.place (subst (λ (blocks : List Block). c.loop-place.place < length blocks) bs c.loop-place-test.true) in
-    beside_control c.args.checked.now.diagram (attributes_of c.args.checked.now.diagram) c.args.plan.now (timing_of c.args.latencies.now []) c.loop-place.all c.controls_line.result c.saturating_add-all.result c.loop-place.place block.0 block.1
+    beside_control c.args.checked.now.diagram (attributes_of c.args.checked.now.diagram) c.args.plan.now
+    (timing_of c.args.latencies.now []) c.loop-place.all c.controls_line.result c.saturating_add-all.result
+    c.loop-place.place block.0 block.1
     c.controls_line.ensures c.saturating_add-all.ensures c.loop-place.invariant
 
 pub loop-edge-init : goal.loop-edge-init
@@ -34,7 +38,9 @@ loop-edge-init c = record { sum_is = omega arith; fits = omega arith }
 pub loop-edge-preserved : goal.loop-edge-preserved
 loop-edge-preserved c =
     let es = c.as_slice-edges.ensures ∙ ap (λ (d : Diagram). d.edges) c.diagram-diagram.ensures in
-    beside_line c.args.checked.now.diagram (attributes_of c.args.checked.now.diagram) c.args.plan.now (timing_of c.args.latencies.now []) c.loop-edge.lines c.line_registers.result c.saturating_add-lines.result c.loop-edge.edge-index _
+    beside_line c.args.checked.now.diagram (attributes_of c.args.checked.now.diagram) c.args.plan.now
+    (timing_of c.args.latencies.now []) c.loop-edge.lines c.line_registers.result c.saturating_add-lines.result
+    c.loop-edge.edge-index _
     (item_read c.args.checked.now.diagram.edges c.as_slice-edges.result.now c.loop-edge.edge-index none es c.loop-edge-test.true)
     c.line_registers.ensures c.saturating_add-lines.ensures c.loop-edge.invariant
 

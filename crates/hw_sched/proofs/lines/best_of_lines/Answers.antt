@@ -16,7 +16,9 @@ pub returns-then-edge-place : goal.returns-then-edge-place
 returns-then-edge-place c =
     let es = c.as_slice-edges.ensures ∙ ap (λ (d : Diagram). d.edges) c.diagram.ensures in
     let at = rest_read c.args.checked.now.diagram.edges c.as_slice-edges.result.now c.first_into-first.result c.loop-edge.edge-index none es c.loop-edge-test.true in
-    lines_stop c.args.checked.now.diagram c.args.place c.args.depths.now c.first_into-first.result (c.first_into-first.result + c.loop-edge.edge-index) c.loop-edge.best _ c.keeps_rules.ensures.checked.wired.ordered
+    lines_stop c.args.checked.now.diagram c.args.place c.args.depths.now c.first_into-first.result
+    (c.first_into-first.result + c.loop-edge.edge-index) c.loop-edge.best _
+    c.keeps_rules.ensures.checked.wired.ordered
     (first_as c.args.checked.now.diagram.edges c.as_slice-edges.result.now c.args.place c.first_into-first.result es c.first_into-first.ensures) (omega arith) at
     (λ e. let differs = c.if-edge-place.true in omega (arith, differs, e)) c.loop-edge.invariant
 
@@ -50,19 +52,24 @@ loop-edge-preserved c =
           rw (w.best-is, w.max-best.ensures)
           (next_counts c.args.checked.now.diagram c.args.place c.args.depths.now c.first_into-first.result c.loop-edge.edge-index c.loop-edge.best _ at
           (let same = c.if-edge-place.false in omega (arith, same))
-          (tested c.period.result c.period-own.result _ ((attributes_of c.args.checked.now.diagram).period_at c.args.place) c.is_same_period.result true c.period.ensures c.period-own.ensures c.is_same_period.ensures w.if-is_same_period.true)
+          (tested c.period.result c.period-own.result _
+          ((attributes_of c.args.checked.now.diagram).period_at c.args.place) c.is_same_period.result true
+          c.period.ensures c.period-own.ensures c.is_same_period.ensures w.if-is_same_period.true)
           c.loop-edge.invariant)
       | else-is_same_period w ↦
           rw w.best-is
           (next_skips c.args.checked.now.diagram c.args.place c.args.depths.now c.first_into-first.result c.loop-edge.edge-index c.loop-edge.best _ at
-          (tested c.period.result c.period-own.result _ ((attributes_of c.args.checked.now.diagram).period_at c.args.place) c.is_same_period.result false c.period.ensures c.period-own.ensures c.is_same_period.ensures w.if-is_same_period.false)
+          (tested c.period.result c.period-own.result _
+          ((attributes_of c.args.checked.now.diagram).period_at c.args.place) c.is_same_period.result false
+          c.period.ensures c.period-own.ensures c.is_same_period.ensures w.if-is_same_period.false)
           c.loop-edge.invariant)
     ]
 
 pub returns : goal.returns
 returns c =
     let es = c.as_slice-edges.ensures ∙ ap (λ (d : Diagram). d.edges) c.diagram.ensures in
-    let past = rest_past c.args.checked.now.diagram.edges c.as_slice-edges.result.now c.first_into-first.result c.loop-edge.edge-index es c.first_into-first.ensures.within (omega (arith, c.loop-edge-test.false)) in
+    let past = rest_past c.args.checked.now.diagram.edges c.as_slice-edges.result.now c.first_into-first.result
+    c.loop-edge.edge-index es c.first_into-first.ensures.within (omega (arith, c.loop-edge-test.false)) in
     lines_end c.args.checked.now.diagram c.args.place c.args.depths.now (c.first_into-first.result + c.loop-edge.edge-index) c.loop-edge.best past c.loop-edge.invariant
 
 pub period-own-requires : goal.period-own-requires
@@ -79,4 +86,6 @@ loop-edge-init c =
     let first = c.first_into-first.result in
     let start : first ≡ first + 0 = omega arith in
     subst (λ (count : ℕ). IsGreatest (IsLineFrom c.args.checked.now.diagram count c.args.place) c.args.depths.now 0) start
-    (lines_begin c.args.checked.now.diagram c.args.place c.args.depths.now first (first_as c.args.checked.now.diagram.edges c.as_slice-edges.result.now c.args.place first es c.first_into-first.ensures))
+    (lines_begin c.args.checked.now.diagram c.args.place c.args.depths.now first
+    (first_as c.args.checked.now.diagram.edges c.as_slice-edges.result.now c.args.place first es
+    c.first_into-first.ensures))

@@ -7,5 +7,7 @@ use Rattle.hw_sched.proofs.lines.first_into.Goals as goal
 
 pub returns : goal.returns
 returns c =
-    let point = c.partition_point.ensures.partitioned (λ (edge : Edge). nat_lt edge.to c.args.block) (always_returns_same _ _ _ (λ a r f k. search (rules, of_calls))) (parted c.args.edges.now c.args.block c.requires) in
+    let point = c.partition_point.ensures.partitioned (λ (edge : Edge). nat_lt edge.to c.args.block)
+    (always_returns_same _ _ _ (λ a r f k. search (rules, of_calls)))
+    (parted c.args.edges.now c.args.block c.requires) in
     first_is c.args.edges.now c.args.block c.partition_point.result c.partition_point.ensures.bound point

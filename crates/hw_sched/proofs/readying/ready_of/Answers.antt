@@ -13,7 +13,8 @@ pub loop-place-preserved : goal.loop-place-preserved
 loop-place-preserved c =
     λ plan bases.
     let timing = timing_of c.args.latencies.now c.args.depths.now in
-    rw c.in_ok-push.ensures.appended (ready_more c.args.checked.now.diagram plan timing c.loop-place.place c.ready_at.result c.loop-place.ready (c.ready_at.ensures plan bases) (c.loop-place.invariant plan bases))
+    rw c.in_ok-push.ensures.appended (ready_more c.args.checked.now.diagram plan timing c.loop-place.place
+    c.ready_at.result c.loop-place.ready (c.ready_at.ensures plan bases) (c.loop-place.invariant plan bases))
 
 pub returns : goal.returns
 returns c =

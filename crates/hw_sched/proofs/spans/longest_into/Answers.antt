@@ -18,7 +18,9 @@ loop-edge-init c =
     let count : ℕ = c.count_of.result in
     let zeros : c.in_ok-longest.longest.items ≡ replicate count 0 = c.in_ok-longest.ensures.items_if_clones_equal (search rules) in
     let size = ap (λ (xs : List ℕ). length xs) zeros ∙ length-replicate count 0 in
-    longest_none c.args.checked.now.diagram c.in_ok-longest.longest.items (subst (AreCounted c.args.checked.now.diagram) (sym size) c.count_of.ensures) (λ period. ap (λ (xs : List ℕ). slice_index xs period) zeros ∙ zero_at count period)
+    longest_none c.args.checked.now.diagram c.in_ok-longest.longest.items
+    (subst (AreCounted c.args.checked.now.diagram) (sym size) c.count_of.ensures)
+    (λ period. ap (λ (xs : List ℕ). slice_index xs period) zeros ∙ zero_at count period)
 
 pub loop-edge-preserved : goal.loop-edge-preserved
 loop-edge-preserved c =

@@ -9,7 +9,9 @@ loop-period-init c = spans_none c.args.checked.now.diagram c.args.plan.now c.new
 pub returns : goal.returns
 returns c =
     let size : c.len-period-end.result ≡ length c.in_ok-longest.longest.items = c.len-period-end.ensures ∙ c.in_ok-longest.longest.ok.0 in
-    spans_end c.args.checked.now.diagram c.args.plan.now c.loop-period.period c.in_ok-longest.longest.items c.loop-period.spans.items c.in_ok-longest.ensures (omega (arith, size, c.loop-period-test.false)) (omega (arith, size, c.loop-period.auto.period-end)) c.loop-period.invariant
+    spans_end c.args.checked.now.diagram c.args.plan.now c.loop-period.period c.in_ok-longest.longest.items
+    c.loop-period.spans.items c.in_ok-longest.ensures (omega (arith, size, c.loop-period-test.false))
+    (omega (arith, size, c.loop-period.auto.period-end)) c.loop-period.invariant
 
 pub loop-period-preserved : goal.loop-period-preserved
 loop-period-preserved c =
@@ -19,7 +21,8 @@ loop-period-preserved c =
     let below : period < length longest.items = omega (arith, size, c.loop-period-test.true) in
     let read : c.index.result.now ≡ slice_index longest.items period = c.index.ensures ∙ get_or_default longest.items period c.index.result.now 0 below in
     rw c.in_ok-push.ensures.items
-    (spans_more c.args.checked.now.diagram c.args.plan.now period longest.items c.loop-period.spans.items (c.index.result.now * c.from-cycles.result) c.saturating_sub.result c.in_ok-longest.ensures below
+    (spans_more c.args.checked.now.diagram c.args.plan.now period longest.items c.loop-period.spans.items
+    (c.index.result.now * c.from-cycles.result) c.saturating_sub.result c.in_ok-longest.ensures below
     (ap (λ (n : ℕ). n * c.from-cycles.result) read ∙ ap (λ (n : ℕ). slice_index longest.items period * n) c.from-cycles.ensures)
     (c.saturating_sub.ensures ∙ ap (λ (n : ℕ). period * n - 1) c.from-cycles.ensures) c.loop-period.invariant)
 

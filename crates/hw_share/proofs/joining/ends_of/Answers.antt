@@ -13,12 +13,24 @@ use Rattle.hw_share.proofs.joining.ends_of.Goals as goal
 pub index-requires : goal.index-requires
 index-requires c =
     let at = slice_get-get_or c.args.operations.now c.loop-one.one-index no-operation c.loop-one-test.true in
-    omega (arith, unit-there c.args.net.now c.loop-one.net c.args.operations.now c.loop-one.ends.items c.loop-one.one-index (slice_index_or c.args.operations.now c.loop-one.one-index no-operation) c.requires.can c.loop-one.invariant.0 at, c.loop-one.ends.ok.0)
+    omega (
+      arith,
+      unit-there c.args.net.now c.loop-one.net c.args.operations.now c.loop-one.ends.items
+          c.loop-one.one-index (slice_index_or c.args.operations.now c.loop-one.one-index no-operation) c.requires.can
+          c.loop-one.invariant.0 at,
+      c.loop-one.ends.ok.0,
+    )
 
 pub index_mut-requires : goal.index_mut-requires
 index_mut-requires c =
     let at = slice_get-get_or c.args.operations.now c.loop-one.one-index no-operation c.loop-one-test.true in
-    omega (arith, unit-there c.args.net.now c.loop-one.net c.args.operations.now c.loop-one.ends.items c.loop-one.one-index (slice_index_or c.args.operations.now c.loop-one.one-index no-operation) c.requires.can c.loop-one.invariant.0 at, c.loop-one.ends.ok.0)
+    omega (
+      arith,
+      unit-there c.args.net.now c.loop-one.net c.args.operations.now c.loop-one.ends.items
+          c.loop-one.one-index (slice_index_or c.args.operations.now c.loop-one.one-index no-operation) c.requires.can
+          c.loop-one.invariant.0 at,
+      c.loop-one.ends.ok.0,
+    )
 
 pub join-requires-clause-can : goal.join-requires-clause-can
 join-requires-clause-can c =
@@ -26,7 +38,9 @@ join-requires-clause-can c =
     let at = slice_get-get_or c.args.operations.now c.loop-one.one-index no-operation c.loop-one-test.true in
     let inside = unit-there c.args.net.now c.loop-one.net c.args.operations.now c.loop-one.ends.items c.loop-one.one-index one c.requires.can c.loop-one.invariant.0 at in
     let known = get_or_from_slice_get c.loop-one.ends.items one.unit (ends_at c.loop-one.ends.items one.unit) c.index.result.now (slice_get-get_or c.loop-one.ends.items one.unit None inside) in
-    λ old is. can-join c.args.net.now c.loop-one.net c.args.operations.now c.loop-one.ends.items c.loop-one.one-index one c.requires.can c.loop-one.invariant.0 at c.requires.cycles old (sym (c.index.ensures ∙ known) ∙ is)
+    λ old is. can-join c.args.net.now c.loop-one.net c.args.operations.now c.loop-one.ends.items
+    c.loop-one.one-index one c.requires.can c.loop-one.invariant.0 at c.requires.cycles old
+    (sym (c.index.ensures ∙ known) ∙ is)
 
 pub join-requires-clause-tests : goal.join-requires-clause-tests
 join-requires-clause-tests c = (c.args.net.now, c.loop-one.invariant.0.grown.appends.extends, c.loop-one.invariant.1)
@@ -46,8 +60,11 @@ loop-one-preserved c =
     let known = get_or_from_slice_get c.loop-one.ends.items one.unit (ends_at c.loop-one.ends.items one.unit) c.index.result.now (slice_get-get_or c.loop-one.ends.items one.unit None inside) in
     let both = c.in_ok-own.ensures c.args.net.now c.loop-one.invariant.0.grown.appends.extends c.loop-one.invariant.1 in
     let joined : IsJoined c.args.net.now c.loop-one.net c.join.new.net (ends_at c.loop-one.ends.items one.unit) one c.in_ok-own.own =
-    subst (λ (k : Option Ends). IsJoined c.args.net.now c.loop-one.net c.join.new.net k one c.in_ok-own.own) (c.index.ensures ∙ known) both.0 in
-    (ends-more c.args.net.now c.loop-one.net c.args.operations.now c.loop-one.ends.items c.loop-one.one-index one c.requires.can c.loop-one.invariant.0 at c.join.new.net c.in_ok-own.own joined, both.1)
+    subst (λ (k : Option Ends). IsJoined c.args.net.now c.loop-one.net c.join.new.net k one c.in_ok-own.own) (c.index.ensures ∙ known) both.0 in (
+      ends-more c.args.net.now c.loop-one.net c.args.operations.now c.loop-one.ends.items c.loop-one.one-index one
+          c.requires.can c.loop-one.invariant.0 at c.join.new.net c.in_ok-own.own joined,
+      both.1,
+    )
 
 pub returns : goal.returns
 returns c =

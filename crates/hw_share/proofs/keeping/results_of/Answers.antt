@@ -45,7 +45,8 @@ loop-one-preserved c =
     let at = slice_get-get_or c.args.operations.now c.loop-one.one-index no-operation c.loop-one-test.true in
     let put = c.in_ok-result.ensures in
     rw c.in_ok-push.ensures.appended
-    (results-more c.args.net.now c.loop-one.net c.register_at.new.net c.args.operations.now c.args.numbers.now c.loop-one.results c.loop-one.one-index c.in_ok-result.result one c.requires.can c.loop-one.invariant at
+    (results-more c.args.net.now c.loop-one.net c.register_at.new.net c.args.operations.now c.args.numbers.now
+    c.loop-one.results c.loop-one.one-index c.in_ok-result.result one c.requires.can c.loop-one.invariant at
     put.is (record { appends = put.grown.appends; parts = put.grown.parts; registers = put.few }))
 
 pub returns : goal.returns

@@ -5,7 +5,8 @@ use Rattle.hw_share.proofs.ClockTests.{known-tested, put-tested}
 use Rattle.hw_share.proofs.moments.test_for.Goals as goal
 
 pub returns-in-Some-clause-test : goal.returns-in-Some-clause-test
-returns-in-Some-clause-test c = λ before grew. known-tested before c.args.net.now c.args.moments.now.entries c.args.frame c.args.slot c.in-Some.number (sym c.get.ensures.value ∙ sym c.copied.ensures ∙ c.in-Some.is)
+returns-in-Some-clause-test c = λ before grew. known-tested before c.args.net.now c.args.moments.now.entries
+    c.args.frame c.args.slot c.in-Some.number (sym c.get.ensures.value ∙ sym c.copied.ensures ∙ c.in-Some.is)
 
 pub returns-in-Some-clause-grown : goal.returns-in-Some-clause-grown
 returns-in-Some-clause-grown c = grows-self c.args.net.now [] (IsChoosing (λ other. other ≡ c.args.frame))

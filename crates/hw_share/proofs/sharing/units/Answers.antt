@@ -14,11 +14,15 @@ results_of-requires c =
     record {
       cycles = omega (arith, first, second, c.requires.low);
       can = rw c.as_slice-2.ensures
-          (can-keep c.args.net.now c.ends_of.new.net c.multipliers.new.net c.args.operations.now c.in_ok-ends.ends.items c.in_ok-numbers.numbers c.requires.high c.requires.can c.in_ok-ends.ensures made);
+          (can-keep c.args.net.now c.ends_of.new.net c.multipliers.new.net c.args.operations.now
+          c.in_ok-ends.ends.items c.in_ok-numbers.numbers c.requires.high c.requires.can c.in_ok-ends.ensures
+          made);
     }
 
 pub returns : goal.returns
 returns c =
     let made = rw c.as_slice.ensures.value at c.in_ok-numbers.ensures in
-    shared-part c.results_of.result c.register_is_closed.ensures c.args.net.now c.ends_of.new.net c.multipliers.new.net c.results_of.new.net c.args.operations.now c.in_ok-ends.ends.items c.in_ok-numbers.numbers
+    shared-part c.results_of.result c.register_is_closed.ensures c.args.net.now c.ends_of.new.net
+    c.multipliers.new.net c.results_of.new.net c.args.operations.now c.in_ok-ends.ends.items
+    c.in_ok-numbers.numbers
     c.requires.can c.in_ok-ends.ensures made (rw c.as_slice-2.ensures at c.results_of.ensures)

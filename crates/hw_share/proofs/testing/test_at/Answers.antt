@@ -21,7 +21,9 @@ parts c =
     less-in c.bits_below.result (c.from.result * c.from-2.result - 1) (c.from.result * c.from-2.result - 1 - c.args.slot) (omega arith) c.bits_below.ensures.room in
     let fits : FitsSigned w128 c.from-3.result = search rules in
     let literal = to_z-of_z w128 c.from-3.result fits in
-    test-part c.counter_is_telling.ensures c.args.net.now c.counter.new.self c.args.frame c.args.slot c.requires.cycles c.requires.period c.requires.inside counted c.in_ok-counter.counter c.in_ok-counter.ensures.found
+    test-part c.counter_is_telling.ensures c.args.net.now c.counter.new.self c.args.frame c.args.slot
+    c.requires.cycles c.requires.period c.requires.inside counted c.in_ok-counter.counter
+    c.in_ok-counter.ensures.found
     c.combine.new.net c.in_ok-count.count c.bits_below.result (c.from.result * c.from-2.result - 1 - c.args.slot) left_is c.bits_below.ensures.word has c.in_ok-count.ensures.number
     (rw (literal, c.from-3.ensures) at c.in_ok-count.ensures.grown) c.combine-2.result c.combine-2.new.net c.combine-2.ensures.number c.combine-2.ensures.grown
 

@@ -12,7 +12,9 @@ loop-level-init c = record {
 
 pub loop-level-preserved : goal.loop-level-preserved
 loop-level-preserved c = record {
-  bases = bases_more c.args.widths.now c.loop-level.bases c.put.new.self c.args.start c.args.period c.loop-level.level c.loop-level.slot c.loop-level.invariant.slot c.in_ok-put.ensures c.loop-level.invariant.bases;
+  bases = bases_more c.args.widths.now c.loop-level.bases c.put.new.self c.args.start c.args.period
+      c.loop-level.level c.loop-level.slot c.loop-level.invariant.slot c.in_ok-put.ensures
+      c.loop-level.invariant.bases;
   slot = base_more c.args.widths.now c.args.start c.args.period c.loop-level.level c.loop-level.slot c.get.result _ c.loop-level.invariant.slot c.get.ensures c.in_ok-slot.ensures;
   elsewhere = elsewhere_more c.args.period c.loop-level.level c.loop-level.slot c.args.bases.now c.loop-level.bases c.put.new.self c.in_ok-put.ensures c.loop-level.invariant.elsewhere;
 }

@@ -8,7 +8,10 @@ loop-place-init c = starts_none c.args.operations.now c.args.multipliers c.args.
 
 pub loop-place-preserved : goal.loop-place-preserved
 loop-place-preserved c =
-    rw c.in_ok-push.ensures.appended (starts_more c.args.operations.now c.args.multipliers c.args.periods.now c.args.bases.now c.args.turns.now c.loop-place.starts c.loop-place.place c.get-base.result _ c.loop-place-test.true c.get-base.ensures c.in_ok-start.ensures c.requires.turns.are c.requires.bases c.loop-place.invariant)
+    rw c.in_ok-push.ensures.appended (starts_more c.args.operations.now c.args.multipliers c.args.periods.now
+    c.args.bases.now c.args.turns.now c.loop-place.starts c.loop-place.place c.get-base.result _
+    c.loop-place-test.true c.get-base.ensures c.in_ok-start.ensures c.requires.turns.are c.requires.bases
+    c.loop-place.invariant)
 
 pub returns : goal.returns
 returns c =

@@ -8,7 +8,10 @@ loop-place-init c = units_none c.args.operations.now c.args.multipliers c.args.k
 
 pub loop-place-preserved : goal.loop-place-preserved
 loop-place-preserved c =
-    rw c.in_ok-push.ensures.appended (units_more c.args.operations.now c.args.multipliers c.args.kinds c.args.firsts.now c.args.turns.now c.loop-place.units c.loop-place.place c.get-first.result _ c.loop-place-test.true c.get-first.ensures c.in_ok-unit.ensures c.requires.turns.are c.requires.firsts c.loop-place.invariant)
+    rw c.in_ok-push.ensures.appended (units_more c.args.operations.now c.args.multipliers c.args.kinds
+    c.args.firsts.now c.args.turns.now c.loop-place.units c.loop-place.place c.get-first.result _
+    c.loop-place-test.true c.get-first.ensures c.in_ok-unit.ensures c.requires.turns.are c.requires.firsts
+    c.loop-place.invariant)
 
 pub returns : goal.returns
 returns c =

@@ -8,5 +8,8 @@ returns-clause-slots c = record {
   keeps = laid_end c.args.operations.now c.args.multipliers c.args.periods.now c.in_ok-bases.bases c.in_ok-bases.ensures.laid;
   starts = c.in_ok-starts.ensures;
   units = c.in_ok-units.ensures;
-  bases = subst (AreBaseSlots c.args.operations.now c.args.multipliers c.args.periods.now) (sym c.new-bases.ensures) (bases_end c.args.operations.now c.args.multipliers c.args.periods.now (record { firsts = c.in_ok-bases.bases; levels = c.in_ok-levels.levels }) c.in_ok-bases.ensures.laid c.in_ok-levels.ensures);
+  bases = subst (AreBaseSlots c.args.operations.now c.args.multipliers c.args.periods.now) (sym c.new-bases.ensures)
+      (bases_end c.args.operations.now c.args.multipliers c.args.periods.now
+      (record { firsts = c.in_ok-bases.bases; levels = c.in_ok-levels.levels }) c.in_ok-bases.ensures.laid
+      c.in_ok-levels.ensures);
 }

@@ -16,8 +16,16 @@ pub loop-operation-preserved : goal.loop-operation-preserved
 loop-operation-preserved c =
     let at = slice_get-get_or c.args.operations.now c.loop-operation.operation-index none c.loop-operation-test.true in
     record {
-      turns = rw c.in_ok-push.ensures.appended (turns_more c.args.operations.now c.loop-operation.operation-index (get_or c.args.operations.now c.loop-operation.operation-index none) c.get-turn.result c.loop-operation.counts c.loop-operation.turns at c.get-turn.ensures c.loop-operation.invariant.counts c.loop-operation.invariant.turns);
-      counts = counts_more c.args.operations.now c.loop-operation.operation-index (get_or c.args.operations.now c.loop-operation.operation-index none) c.in_ok-count.count c.loop-operation.counts c.put.new.self at (c.in_ok-count.ensures ∙ ap (λ (n : ℕ). n + 1) c.get-turn.ensures) c.in_ok-put.ensures c.loop-operation.invariant.counts;
+      turns = rw c.in_ok-push.ensures.appended
+          (turns_more c.args.operations.now c.loop-operation.operation-index
+          (get_or c.args.operations.now c.loop-operation.operation-index none) c.get-turn.result
+          c.loop-operation.counts c.loop-operation.turns at c.get-turn.ensures
+          c.loop-operation.invariant.counts c.loop-operation.invariant.turns);
+      counts = counts_more c.args.operations.now c.loop-operation.operation-index
+          (get_or c.args.operations.now c.loop-operation.operation-index none) c.in_ok-count.count
+          c.loop-operation.counts c.put.new.self at
+          (c.in_ok-count.ensures ∙ ap (λ (n : ℕ). n + 1) c.get-turn.ensures) c.in_ok-put.ensures
+          c.loop-operation.invariant.counts;
     }
 
 pub returns-clause-turns : goal.returns-clause-turns

@@ -14,8 +14,14 @@ loop-operation-init c = greatest_none c.args.operations.now (at_first level_afte
 pub loop-operation-preserved : goal.loop-operation-preserved
 loop-operation-preserved c =
     let at = slice_get-get_or c.args.operations.now c.loop-operation.operation-index none c.loop-operation-test.true in
-    greatest_more c.args.operations.now (at_first level_after) c.loop-operation.operation-index (get_or c.args.operations.now c.loop-operation.operation-index none) _ 0 c.in_ok-after.after c.loop-operation.levels c.raise.new.self at
-    (firsts_given level_after (get_or c.args.operations.now c.loop-operation.operation-index none) _ c.in_ok-after.after (levels_given (get_or c.args.operations.now c.loop-operation.operation-index none) c.in_ok-after.after c.in_ok-after.ensures)) c.in_ok-raise.ensures c.loop-operation.invariant
+    greatest_more c.args.operations.now (at_first level_after) c.loop-operation.operation-index
+    (get_or c.args.operations.now c.loop-operation.operation-index none) _ 0 c.in_ok-after.after
+    c.loop-operation.levels c.raise.new.self at
+    (firsts_given level_after (get_or c.args.operations.now c.loop-operation.operation-index none) _
+    c.in_ok-after.after (levels_given (get_or c.args.operations.now c.loop-operation.operation-index none)
+    c.in_ok-after.after c.in_ok-after.ensures)) c.in_ok-raise.ensures c.loop-operation.invariant
 
 pub returns : goal.returns
-returns c = are_levels c.args.operations.now c.loop-operation.levels (greatest_end c.args.operations.now (at_first level_after) c.loop-operation.operation-index c.loop-operation.levels c.loop-operation-test.false c.loop-operation.invariant)
+returns c = are_levels c.args.operations.now c.loop-operation.levels
+    (greatest_end c.args.operations.now (at_first level_after) c.loop-operation.operation-index
+    c.loop-operation.levels c.loop-operation-test.false c.loop-operation.invariant)

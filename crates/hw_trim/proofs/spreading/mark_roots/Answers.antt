@@ -7,4 +7,6 @@ mark_ports-requires-clause-there c = rw c.inputs.ensures (inputs-there c.args.ne
 
 pub mark_labels-requires-clause-there : goal.mark_labels-requires-clause-there
 mark_labels-requires-clause-there c =
-    rw c.labels.ensures (labels-there c.args.netlist.now c.requires.runs (length c.mark_ports-2.new.marks) (c.in_ok-mark_ports-2.ensures.marks.size ∙ c.in_ok-mark_ports.ensures.marks.size ∙ c.requires.size) c.requires.emittable)
+    rw c.labels.ensures (labels-there c.args.netlist.now c.requires.runs (length c.mark_ports-2.new.marks)
+    (c.in_ok-mark_ports-2.ensures.marks.size ∙ c.in_ok-mark_ports.ensures.marks.size ∙ c.requires.size)
+    c.requires.emittable)

@@ -32,7 +32,12 @@ returns-in_default-clause-err c =
 pub returns-clause-ok : goal.returns-clause-ok
 returns-clause-ok c =
     let are = found (goal.at.returns-clause-ok c).In-Some in
-    IfOk-weaker c.nested_of-nested.result _ _ (λ nested is. (is, sound c.values_are_one.ensures c.are_sound_blocks.ensures c.names_differ.ensures c.blocks_are_counted.ensures c.args.tree.now nested is))
+    IfOk-weaker c.nested_of-nested.result _ _
+    (λ nested is. (
+      is,
+      sound c.values_are_one.ensures c.are_sound_blocks.ensures c.names_differ.ensures
+          c.blocks_are_counted.ensures c.args.tree.now nested is,
+    ))
     (subst (λ (items : List Item). IfOk c.nested_of-nested.result (IsNestedOf (record { items = items }))) are.items_are c.nested_of-nested.ensures.ok)
 
 pub returns-clause-err : goal.returns-clause-err

@@ -14,7 +14,8 @@ loop-place-init c = subst (AreMade (items_of c.args.maker.now) 0) (sym c.require
 
 pub type_at-requires : goal.type_at-requires
 type_at-requires c =
-    (block_here (items_of c.args.maker.now) c.places-place-items.result.now c.loop-place.place-index 0 (c.places-place-items.ensures ∙ c.requires.maker.known.blocks.places) c.loop-place-test.true).within
+    (block_here (items_of c.args.maker.now) c.places-place-items.result.now c.loop-place.place-index 0
+    (c.places-place-items.ensures ∙ c.requires.maker.known.blocks.places) c.loop-place-test.true).within
 
 pub unreachable-requires : goal.unreachable-requires
 unreachable-requires c =

@@ -35,7 +35,8 @@ pub returns-then-not-branch-clause-err : goal.returns-then-not-branch-clause-err
 returns-then-not-branch-clause-err c =
     let items = c.args.known.now.layout.items.now in
     let extents = c.args.known.now.extents.items in
-    let broken : structure_fault extents items ≡ Some (fault_of Rule.Structure [] Nothing) = model_breaks items extents c.requires.sizes (sym c.in_ok-put_lines.ensures.joined ∙ c.if-not-branch.true) in
+    let broken : structure_fault extents items ≡ Some (fault_of Rule.Structure [] Nothing) =
+    model_breaks items extents c.requires.sizes (sym c.in_ok-put_lines.ensures.joined ∙ c.if-not-branch.true) in
     subst (λ (fault : CheckFault). IsRefusal (Breaks (record { items = items })) fault) (sym c.broken_model.ensures)
     (inl (record { extents = extents; are_extents = c.requires.known.extents; finds = broken }))
 
@@ -54,7 +55,9 @@ returns-in-Some-2-clause-err c =
     inr (inl (record { structured = found here; broken = sym c.in_ok-unknown.ensures ∙ c.in-Some-2.is }))
 
 pub put_blocks-put-requires-clause-structured : goal.put_blocks-put-requires-clause-structured
-put_blocks-put-requires-clause-structured c = ap₂ structure_fault c.in_ok-maker.ensures.extents c.in_ok-maker.ensures.items ∙ structured (goal.at.put_blocks-put-requires-clause-structured c).In_default
+put_blocks-put-requires-clause-structured c =
+    ap₂ structure_fault c.in_ok-maker.ensures.extents c.in_ok-maker.ensures.items
+    ∙ structured (goal.at.put_blocks-put-requires-clause-structured c).In_default
 
 pub put_blocks-put-requires-clause-known : goal.put_blocks-put-requires-clause-known
 put_blocks-put-requires-clause-known c = ap library_fault c.in_ok-maker.ensures.items ∙ sym c.in_ok-unknown.ensures ∙ c.in_default-2.is

@@ -10,7 +10,8 @@ use Rattle.mdl_build.proofs.expanding.put_expanded.Given as goal
 abbrev pub invariant-loop-drawn : goal.invariant-loop-drawn
 invariant-loop-drawn l = record {
   blocks : (other : Decimal) → l.nested.blocks ++ flat_map (with_filling other l.numbers) (zip (drop l.number l.numbers) (into_iter_items l.left)) ≡ expanded_blocks other l.numbers l.fn.blocks;
-  lines : l.nested.lines ++ flat_map (λ (entry : ℕ × DrawnBlock). filling_lines entry.0 entry.1.filter) (zip (drop l.number l.numbers) (into_iter_items l.left)) ≡ expanded_lines l.numbers l.fn.blocks l.fn.lines;
+  lines : l.nested.lines ++ flat_map (λ (entry : ℕ × DrawnBlock). filling_lines entry.0 entry.1.filter)
+      (zip (drop l.number l.numbers) (into_iter_items l.left)) ≡ expanded_lines l.numbers l.fn.blocks l.fn.lines;
   len : into_iter_len l.left ≡ length (into_iter_items l.left);
   number : l.number + into_iter_len l.left ≡ length l.numbers;
   placed : All (IsPlaced l.numbers) (into_iter_items l.left);

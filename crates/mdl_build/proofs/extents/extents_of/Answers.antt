@@ -36,7 +36,9 @@ loop-place-preserved c = elim c.if-is_block.branch [
       let place = c.loop-place.place in
       let below : place < length items = omega (arith, c.loop-place-test.true, roles_long items c.args.roles.now c.requires) in
       let is : is_block (role_of items place) ≡ false = ap is_block (role_here items c.args.roles.now place Other c.requires below) ∙ sym c.is_block.ensures ∙ w.if-is_block.false in
-      let next = filter_next (λ (other : ℕ). is_block (role_of items other)) place ∙ ap (λ (b : Bool). blocks_before items place ++ cond b (place ∷ []) []) is ∙ append-nil (blocks_before items place) in
+      let next = filter_next (λ (other : ℕ). is_block (role_of items other)) place
+      ∙ ap (λ (b : Bool). blocks_before items place ++ cond b (place ∷ []) []) is
+      ∙ append-nil (blocks_before items place) in
       subst (λ (extents : List ℕ). AllZip (IsExtentAt items) (blocks_before items (place + 1)) extents) (sym (ap (λ extents. extents.items) w.extents-is))
       (subst (λ (places : List ℕ). AllZip (IsExtentAt items) places c.loop-place.extents.items) (sym next) c.loop-place.invariant)
 ]

@@ -5,7 +5,8 @@ use Rattle.mdl_build.specs.Sections.{depth_at}
 use Rattle.mdl_build.proofs.layout.holder_at.Goals as goal
 
 pub bounds : goal.bounds
-bounds c = let r = c.requires.within in let t = c.loop-behind-test.true in let i = c.loop-behind.invariant.0 in omega (arith, holders_length c.args.items.now c.args.holders.now c.args.place c.requires.known)
+bounds c = let r = c.requires.within in let t = c.loop-behind-test.true in let i = c.loop-behind.invariant.0 in
+    omega (arith, holders_length c.args.items.now c.args.holders.now c.args.place c.requires.known)
 
 -- the holder of the last item that was passed stands before it
 holder_before : (c : goal.In-Some) → c.in-Some.holder < c.loop-behind.behind - 1
@@ -24,8 +25,12 @@ loop-behind-preserved-in-None c =
     let r = c.requires.within in
     let t = c.loop-behind-test.true in
     let i = c.loop-behind.invariant.0 in
-    let known = holder_known c.args.items.now c.args.holders.now c.args.place (c.loop-behind.behind - 1) c.requires.known (omega arith) None in
-    (omega arith, leap_from c.args.items.now c.args.depth c.loop-behind.behind c.args.place c.index-items-last.result None t (omega arith) c.if-items-last.false (sym c.in-None.is ∙ known) c.loop-behind.invariant.1)
+    let known = holder_known c.args.items.now c.args.holders.now c.args.place (c.loop-behind.behind - 1) c.requires.known (omega arith) None in (
+      omega arith,
+      leap_from c.args.items.now c.args.depth c.loop-behind.behind c.args.place
+          c.index-items-last.result None t (omega arith) c.if-items-last.false
+          (sym c.in-None.is ∙ known) c.loop-behind.invariant.1,
+    )
 
 pub loop-behind-smaller : goal.loop-behind-smaller
 loop-behind-smaller c = omega (arith, holder_before c)
@@ -35,5 +40,9 @@ loop-behind-preserved c =
     let r = c.requires.within in
     let t = c.loop-behind-test.true in
     let i = c.loop-behind.invariant.0 in
-    let known = holder_known c.args.items.now c.args.holders.now c.args.place (c.loop-behind.behind - 1) c.requires.known (omega arith) None in
-    (omega (arith, holder_before c), leap_from c.args.items.now c.args.depth c.loop-behind.behind c.args.place c.index-items-last.result (Some c.in-Some.holder) t (omega arith) c.if-items-last.false (sym c.in-Some.is ∙ known) c.loop-behind.invariant.1)
+    let known = holder_known c.args.items.now c.args.holders.now c.args.place (c.loop-behind.behind - 1) c.requires.known (omega arith) None in (
+      omega (arith, holder_before c),
+      leap_from c.args.items.now c.args.depth c.loop-behind.behind c.args.place
+          c.index-items-last.result (Some c.in-Some.holder) t (omega arith) c.if-items-last.false
+          (sym c.in-Some.is ∙ known) c.loop-behind.invariant.1,
+    )

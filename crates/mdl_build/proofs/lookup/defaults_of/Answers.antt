@@ -28,4 +28,6 @@ pub returns : goal.returns
 returns c =
     let t = c.loop-place-test.false in
     let past : length c.args.layout.now.items.now ≤ c.loop-place.place = omega (arith, roles_long c.args.layout.now.items.now c.args.roles.now c.requires.roles) in
-    find_at_end (has_defaults c.args.layout.now.items.now c.args.block_type) c.loop-place.place (length c.args.layout.now.items.now) (defaults_of c.args.layout.now.items.now c.args.block_type) past c.loop-place.invariant
+    find_at_end (has_defaults c.args.layout.now.items.now c.args.block_type) c.loop-place.place
+    (length c.args.layout.now.items.now)
+    (defaults_of c.args.layout.now.items.now c.args.block_type) past c.loop-place.invariant

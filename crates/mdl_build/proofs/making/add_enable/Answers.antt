@@ -28,7 +28,9 @@ and_none true = refl
 and_none false = refl
 
 -- a block that isn't the EnablePort of a System changes nothing
-kept : (items : List Item) (before : List ℕ) (place : ℕ) (enabled : List Bool) → ((system : ℕ) → is_enable_in items system place ≡ false) → AreEnabled items before enabled → AreEnabled items (before ++ place ∷ []) enabled
+kept : (items : List Item) (before : List ℕ) (place : ℕ) (enabled : List Bool)
+    → ((system : ℕ) → is_enable_in items system place ≡ false) → AreEnabled items before enabled
+    → AreEnabled items (before ++ place ∷ []) enabled
 kept items before place enabled never are = record {
   long = are.long;
   each = λ system below.
@@ -43,7 +45,10 @@ noted items before place system enabled holds is inside are = record {
   long = length-set enabled system true ∙ are.long;
   each = λ other below.
       let p = is_enable_in items other in
-      let test : (b : Bool) → (system == other) ≡ b → p place ≡ (b && true) = λ b same. ap (λ (found : Option ℕ). at false (λ holder. holder == other) found && is_of items EnablePort place) holds ∙ ap (λ (t : Bool). (system == other) && t) is ∙ ap (λ (t : Bool). t && true) same in
+      let test : (b : Bool) → (system == other) ≡ b → p place ≡ (b && true) =
+      λ b same. ap (λ (found : Option ℕ). at false (λ holder. holder == other) found
+      && is_of items EnablePort place) holds ∙ ap (λ (t : Bool). (system == other) && t) is
+      ∙ ap (λ (t : Bool). t && true) same in
       ⊎_elim
       (λ (same : system ≡ other).
       subst (λ (o : ℕ). get_or (set enabled system true) o false ≡ true) same (get_or-set_same enabled system true false inside)
@@ -65,7 +70,10 @@ pub returns-then-not-says : goal.returns-then-not-says
 returns-then-not-says c before are =
     let items = c.args.layout.now.items.now in
     let place = c.args.place in
-    kept items before place _ (λ system. ap (λ (b : Bool). at false (λ holder. holder == system) (holder_of items place) && b) (sym c.says.ensures ∙ c.if-not-says.true) ∙ and_none (at false (λ holder. holder == system) (holder_of items place))) are
+    kept items before place _ (λ system. ap
+    (λ (b : Bool). at false (λ holder. holder == system) (holder_of items place) && b)
+    (sym c.says.ensures ∙ c.if-not-says.true)
+    ∙ and_none (at false (λ holder. holder == system) (holder_of items place))) are
 
 pub returns-in_default : goal.returns-in_default
 returns-in_default c before are =

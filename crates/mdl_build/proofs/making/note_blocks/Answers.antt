@@ -13,7 +13,8 @@ loop-number-init c = record { enabled = c.requires.enabled; numbers = c.requires
 
 pub index_mut-requires : goal.index_mut-requires
 index_mut-requires c =
-    let h = block_here c.args.known.now.layout.items.now c.places-place-items.result.now c.loop-number.number 0 (c.places-place-items.ensures ∙ c.requires.known.blocks.places) c.loop-number-test.true in
+    let h = block_here c.args.known.now.layout.items.now c.places-place-items.result.now c.loop-number.number 0
+    (c.places-place-items.ensures ∙ c.requires.known.blocks.places) c.loop-number-test.true in
     omega (arith, h.within, c.loop-number.invariant.numbers.long, c.loop-number.numbers.ok.0)
 
 pub add_enable-requires-clause-within : goal.add_enable-requires-clause-within

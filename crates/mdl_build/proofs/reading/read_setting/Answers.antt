@@ -37,7 +37,8 @@ returns-in-CoefficientType c =
 
 pub returns-in-AccumulatorType : goal.returns-in-AccumulatorType
 returns-in-AccumulatorType c =
-    reads_as c.args.first.now Reader.AccumulatorType c.args.parameter.2 c.as_bytes-default.result.now c.args.parameter.1.now c.args.text.now c.coefficient-in-AccumulatorType.result c.in-AccumulatorType.ensures
+    reads_as c.args.first.now Reader.AccumulatorType c.args.parameter.2 c.as_bytes-default.result.now
+    c.args.parameter.1.now c.args.text.now c.coefficient-in-AccumulatorType.result c.in-AccumulatorType.ensures
     (c.as_bytes-default.ensures.value ∙ c.default.ensures) c.coefficient-in-AccumulatorType.ensures
 
 pub returns-in-Conversion : goal.returns-in-Conversion
@@ -93,12 +94,15 @@ returns-in_ok-read_width-in-Width c =
 pub returns-in_ok-read_sample_time-in-SampleTime : goal.returns-in_ok-read_sample_time-in-SampleTime
 returns-in_ok-read_sample_time-in-SampleTime c =
     reads_as c.args.first.now Reader.SampleTime c.args.parameter.2 c.args.parameter.1.now c.args.parameter.1.now c.args.text.now c.map-in-SampleTime.result c.in-SampleTime.ensures refl
-    (found_in (IsSampleTime c.args.text.now) Setting.Period c.in_ok-read_sample_time-in-SampleTime.field-0 c.map-in-SampleTime.result c.map-in-SampleTime.ensures.cases c.in_ok-read_sample_time-in-SampleTime.ensures)
+    (found_in (IsSampleTime c.args.text.now) Setting.Period c.in_ok-read_sample_time-in-SampleTime.field-0
+    c.map-in-SampleTime.result c.map-in-SampleTime.ensures.cases c.in_ok-read_sample_time-in-SampleTime.ensures)
 
 pub returns-in_ok-read_constant_time-in-ConstantTime : goal.returns-in_ok-read_constant_time-in-ConstantTime
 returns-in_ok-read_constant_time-in-ConstantTime c =
     reads_as c.args.first.now Reader.ConstantTime c.args.parameter.2 c.args.parameter.1.now c.args.parameter.1.now c.args.text.now c.map-in-ConstantTime.result c.in-ConstantTime.ensures refl
-    (found_in (IsConstantTime c.args.text.now) Setting.Period c.in_ok-read_constant_time-in-ConstantTime.field-0 c.map-in-ConstantTime.result c.map-in-ConstantTime.ensures.cases c.in_ok-read_constant_time-in-ConstantTime.ensures)
+    (found_in (IsConstantTime c.args.text.now) Setting.Period c.in_ok-read_constant_time-in-ConstantTime.field-0
+    c.map-in-ConstantTime.result c.map-in-ConstantTime.ensures.cases
+    c.in_ok-read_constant_time-in-ConstantTime.ensures)
 
 pub returns-in_ok-read_period-in-Period : goal.returns-in_ok-read_period-in-Period
 returns-in_ok-read_period-in-Period c =
@@ -107,7 +111,8 @@ returns-in_ok-read_period-in-Period c =
 
 pub returns-in-TypeOrInternal : goal.returns-in-TypeOrInternal
 returns-in-TypeOrInternal c =
-    reads_as c.args.first.now Reader.TypeOrInternal c.args.parameter.2 c.as_bytes-default.result.now c.args.parameter.1.now c.args.text.now c.type_or-in-TypeOrInternal.result c.in-TypeOrInternal.ensures
+    reads_as c.args.first.now Reader.TypeOrInternal c.args.parameter.2 c.as_bytes-default.result.now
+    c.args.parameter.1.now c.args.text.now c.type_or-in-TypeOrInternal.result c.in-TypeOrInternal.ensures
     (c.as_bytes-default.ensures.value ∙ c.default.ensures) c.type_or-in-TypeOrInternal.ensures
 
 pub returns-in-TapType : goal.returns-in-TapType

@@ -30,7 +30,19 @@ overflow_add-before c =
     let in_items : holder < length items = omega (arith, h, c.requires.within) in
     let value : c.index-before.result.now ≡ get_or counts holder 0 = c.index-before.ensures ∙ get_or_default counts holder c.index-before.result.now 0 inside in
     let bound = count_bound (is_system_in items holder) c.args.place in
-    record { fits = omega (arith, value, c.requires.counted.each holder in_items, bound, c.requires.within, c.requires.counted.long, c.args.counts.now.ok.0, c.args.counts.now.ok.1, c.args.counts.now.small) }
+    record {
+      fits = omega (
+        arith,
+        value,
+        c.requires.counted.each holder in_items,
+        bound,
+        c.requires.within,
+        c.requires.counted.long,
+        c.args.counts.now.ok.0,
+        c.args.counts.now.ok.1,
+        c.args.counts.now.small,
+      );
+    }
 
 pub index_mut-requires : goal.index_mut-requires
 index_mut-requires c =

@@ -51,7 +51,9 @@ loop-number-preserved c =
     let items = c.args.layout.now.items.now in
     let number = c.loop-number.number in
     let is = c.places-place-items.ensures ∙ c.requires.known.places in
-    let keeps : keeps_structure items (get_or (blocks_of items) number 0) ≡ true = ap (λ (places : List ℕ). keeps_structure items (get_or places number 0)) (sym is) ∙ sym c.keeps_structure.ensures ∙ c.if-not-keeps_structure.false in
+    let keeps : keeps_structure items (get_or (blocks_of items) number 0) ≡ true =
+    ap (λ (places : List ℕ). keeps_structure items (get_or places number 0)) (sym is)
+    ∙ sym c.keeps_structure.ensures ∙ c.if-not-keeps_structure.false in
     let below = subst (λ (places : List ℕ). number < length places) is c.loop-number-test.true in
     c.loop-number.invariant ∙ find_next (λ (place : ℕ). not (keeps_structure items place)) (blocks_of items) number below (ap not keeps)
 
@@ -60,7 +62,9 @@ returns-then-not-keeps_structure c =
     let items = c.args.layout.now.items.now in
     let number = c.loop-number.number in
     let is = c.places-place-items.ensures ∙ c.requires.known.places in
-    let breaks : keeps_structure items (get_or (blocks_of items) number 0) ≡ false = ap (λ (places : List ℕ). keeps_structure items (get_or places number 0)) (sym is) ∙ sym c.keeps_structure.ensures ∙ c.if-not-keeps_structure.true in
+    let breaks : keeps_structure items (get_or (blocks_of items) number 0) ≡ false =
+    ap (λ (places : List ℕ). keeps_structure items (get_or places number 0)) (sym is)
+    ∙ sym c.keeps_structure.ensures ∙ c.if-not-keeps_structure.true in
     let below = subst (λ (places : List ℕ). number < length places) is c.loop-number-test.true in
     ap (λ (places : List ℕ). Some (get_or places number 0)) is
     ∙ sym (c.loop-number.invariant ∙ find_here (λ (place : ℕ). not (keeps_structure items place)) (blocks_of items) number below (ap not breaks))

@@ -17,12 +17,16 @@ loop-role-init c = record { models = omega arith; firsts = omega arith; shallow 
 
 pub overflow_add-models : goal.overflow_add-models
 overflow_add-models c =
-    let few : c.loop-role.models + c.from-models.result ≤ c.loop-role.role-index + 1 = few_more c.is_model.result c.from-models.result c.loop-role.models c.loop-role.role-index c.from-models.ensures c.loop-role.invariant.few_models in
+    let few : c.loop-role.models + c.from-models.result ≤ c.loop-role.role-index + 1 =
+    few_more c.is_model.result c.from-models.result c.loop-role.models c.loop-role.role-index
+    c.from-models.ensures c.loop-role.invariant.few_models in
     search rules
 
 pub overflow_add-firsts : goal.overflow_add-firsts
 overflow_add-firsts c =
-    let few : c.loop-role.firsts + c.from-firsts.result ≤ c.loop-role.role-index + 1 = few_more c.is_first.result c.from-firsts.result c.loop-role.firsts c.loop-role.role-index c.from-firsts.ensures c.loop-role.invariant.few_firsts in
+    let few : c.loop-role.firsts + c.from-firsts.result ≤ c.loop-role.role-index + 1 =
+    few_more c.is_first.result c.from-firsts.result c.loop-role.firsts c.loop-role.role-index
+    c.from-firsts.ensures c.loop-role.invariant.few_firsts in
     search rules
 
 pub returns-then-not-is_shallow : goal.returns-then-not-is_shallow
@@ -38,8 +42,12 @@ loop-role-preserved c =
     let roles = c.args.roles.now in
     let i = c.loop-role.role-index in
     record {
-      models = counted is_model roles i Other c.is_model.result c.from-models.result c.loop-role.models (count_by is_model roles) c.loop-role-test.true c.is_model.ensures c.from-models.ensures c.loop-role.invariant.models;
-      firsts = counted first roles i Other c.is_first.result c.from-firsts.result c.loop-role.firsts (count_by first roles) c.loop-role-test.true c.is_first.ensures c.from-firsts.ensures c.loop-role.invariant.firsts;
+      models = counted is_model roles i Other c.is_model.result c.from-models.result c.loop-role.models
+          (count_by is_model roles) c.loop-role-test.true c.is_model.ensures c.from-models.ensures
+          c.loop-role.invariant.models;
+      firsts = counted first roles i Other c.is_first.result c.from-firsts.result c.loop-role.firsts
+          (count_by first roles) c.loop-role-test.true c.is_first.ensures c.from-firsts.ensures
+          c.loop-role.invariant.firsts;
       shallow =
           sym (at_drop_more (list_all is_shallow) roles i Other c.loop-role-test.true
           ∙ ap (λ (b : Bool). b && list_all is_shallow (drop (i + 1) roles)) (sym c.is_shallow.ensures ∙ c.if-not-is_shallow.false))

@@ -10,7 +10,9 @@ loop-next-preserved c =
     let read : Option Reader = Some c.step.new.self in
     let goes_on = c.in-Ok-true.ensures ∙ ap (λ t. cond t read None) c.in-Ok-true.field-0-test in
     record {
-      reached = reached_next c.args.bytes.now c.loop-next.rest.now c.loop-next.reader c.loop-next.line c.loop-next.invariant.reached c.in-Some.next.now c.in-Some.after.now split.0 split.1 c.step.new.self goes_on;
+      reached = reached_next c.args.bytes.now c.loop-next.rest.now c.loop-next.reader c.loop-next.line
+          c.loop-next.invariant.reached c.in-Some.next.now c.in-Some.after.now split.0 split.1 c.step.new.self
+          goes_on;
       bounded = step_bounded c.loop-next.reader c.step.new.self c.in-Some.next.now c.loop-next.invariant.bounded goes_on;
     }
 
@@ -36,4 +38,6 @@ returns-in-None-clause-line c =
 
 pub returns-in-Some-2-clause-found : goal.returns-in-Some-2-clause-found
 returns-in-Some-2-clause-found c =
-    found_end c.args.bytes.now c.loop-next.rest.now c.loop-next.reader c.loop-next.line c.loop-next.invariant.reached c.in_default.ensures c.in-Some-2.items (sym c.in_ok-last_line.ensures ∙ c.in-Some-2.is)
+    found_end c.args.bytes.now c.loop-next.rest.now c.loop-next.reader c.loop-next.line
+    c.loop-next.invariant.reached c.in_default.ensures c.in-Some-2.items
+    (sym c.in_ok-last_line.ensures ∙ c.in-Some-2.is)

@@ -15,7 +15,9 @@ loop-end-preserved c = (
 pub returns : goal.returns
 returns c =
     elim c.loop-end-test.branch [
-      | then-loop-end-test+else-is_blank w ↦ sym (cut_kept c.args.bytes.now c.loop-end.end w.loop-end-test.true c.loop-end.invariant.1 (sym w.is_blank.ensures ∙ w.if-is_blank.false)) ∙ c.loop-end.invariant.0
+      | then-loop-end-test+else-is_blank w ↦ sym
+          (cut_kept c.args.bytes.now c.loop-end.end w.loop-end-test.true c.loop-end.invariant.1
+          (sym w.is_blank.ensures ∙ w.if-is_blank.false)) ∙ c.loop-end.invariant.0
       | else-loop-end-test w ↦ let none : c.loop-end.end ≡ 0 = omega arith in
           ap (λ n. take n c.args.bytes.now) none ∙ sym (ap (λ n. trimmed (take n c.args.bytes.now)) none) ∙ c.loop-end.invariant.0
     ]

@@ -14,4 +14,5 @@ returns c =
     let second : get_or c.in-Some.texts 1 [] ≡ c.bytes.result.now =
     ap (λ (xs : List (List ℕ)). get_or xs 1 []) (sym c.as_slice-elements.ensures)
     ∙ get_or_default texts 1 [] c.index-elements-1.result (omega (arith, long)) ∙ sym c.index-elements-1.is ∙ sym c.bytes.ensures in
-    offset_found c.args.text.now c.in-Some.texts c.bytes-2.result.now c.bytes.result.now c.above_zero-period.result sized first second (c.is_zero.ensures.0 c.if-not-is_zero.false) c.above_zero-period.ensures
+    offset_found c.args.text.now c.in-Some.texts c.bytes-2.result.now c.bytes.result.now c.above_zero-period.result
+    sized first second (c.is_zero.ensures.0 c.if-not-is_zero.false) c.above_zero-period.ensures

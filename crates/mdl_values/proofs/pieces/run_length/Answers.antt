@@ -16,10 +16,22 @@ of_sort false true other byte is test = not-true _ (sym is) ∙ ap not test
 of_sort false false other byte is test = not-false _ (sym is) ∙ ap not test
 
 pub loop-i-preserved : goal.loop-i-preserved
-loop-i-preserved c = omega (arith, c.loop-i.invariant, prefix_here (is_of c.args.solid) c.args.text.now c.loop-i.i true c.loop-i-test.true (of_sort c.args.solid c.is_solid.result false _ c.is_solid.ensures c.if-is_solid-solid.false))
+loop-i-preserved c = omega (
+  arith,
+  c.loop-i.invariant,
+  prefix_here (is_of c.args.solid) c.args.text.now c.loop-i.i true c.loop-i-test.true
+      (of_sort c.args.solid c.is_solid.result false _ c.is_solid.ensures c.if-is_solid-solid.false),
+)
 
 pub returns-then-is_solid-solid-clause-value : goal.returns-then-is_solid-solid-clause-value
-returns-then-is_solid-solid-clause-value c = omega (arith, c.loop-i.invariant, prefix_here (is_of c.args.solid) c.args.text.now c.loop-i.i false c.loop-i-test.true (of_sort c.args.solid c.is_solid.result true _ c.is_solid.ensures c.if-is_solid-solid.true))
+returns-then-is_solid-solid-clause-value c =
+    omega (
+      arith,
+      c.loop-i.invariant,
+      prefix_here
+          (is_of c.args.solid) c.args.text.now c.loop-i.i false c.loop-i-test.true
+          (of_sort c.args.solid c.is_solid.result true _ c.is_solid.ensures c.if-is_solid-solid.true),
+    )
 
 pub returns-clause-value : goal.returns-clause-value
 returns-clause-value c = omega (arith, c.loop-i.invariant, at_drop_all (prefix_len (is_of c.args.solid)) c.args.text.now c.loop-i.i c.loop-i-test.false, c.loop-i-test.false, c.loop-i.auto.i-end)

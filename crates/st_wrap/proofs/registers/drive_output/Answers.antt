@@ -23,5 +23,7 @@ returns c =
     let column = c.args.column.now in
     let all : c.loop-place.place ≡ column.late = omega (arith, c.loop-place-test.false, c.loop-place.auto.place-end) in
     let chain = lists-as (ap (λ (n : ℕ). map (stage_driven column) (range_with_len 0 n)) all) c.loop-place.invariant in
-    let put = subst (λ (name : List ℕ). Lists c.loop-place.out c.assign.new.out (Assign name (Name (stage_name column column.late)) ∷ [])) c.bytes-name.ensures (c.assign.ensures _ (c.named-shown.ensures _ c.stage_name-2.ensures)) in
+    let put = subst (λ (name : List ℕ). Lists c.loop-place.out c.assign.new.out
+    (Assign name (Name (stage_name column column.late)) ∷ [])) c.bytes-name.ensures
+    (c.assign.ensures _ (c.named-shown.ensures _ c.stage_name-2.ensures)) in
     both chain put

@@ -5,7 +5,8 @@ use Rattle.vl_ast.specs.declared.expressions.Expr.TheViews.{out-Expr}
 use Rattle.vl_ast.proofs.Listings.{holds-as, one-held}
 use Rattle.st_wrap.specs.inner.Names.{inner_name}
 use Rattle.st_wrap.specs.inner.CoreNames.{renamed, with_name, with_part}
-use Rattle.st_wrap.proofs.Forms.{of-name, of-bit, of-part, of-literal, of-concat, of-repeat, of-signed, of-unsigned, of-unary, of-binary, of-shift, of-choose, over-bit, over-name, over-part, over-repeat, over-shift, over-signed, over-unary, over-unsigned}
+use Rattle.st_wrap.proofs.Forms.{of-name, of-bit, of-part, of-literal, of-concat, of-repeat, of-signed, of-unsigned, of-unary, of-binary, of-shift, of-choose, over-bit, over-name, over-part}
+use Rattle.st_wrap.proofs.Forms.{over-repeat, over-shift, over-signed, over-unary, over-unsigned}
 use Rattle.st_wrap.proofs.renaming.+renaming.Goals as goal
 
 pub renamed_expr-returns-in-Name : goal.renamed_expr-returns-in-Name

@@ -18,4 +18,6 @@ returns-in-Shift c is part = sym (over-shift c.in-Shift.op _ c.in_ok-part.part c
 
 pub returns-in_default : goal.returns-in_default
 returns-in_default c is part =
-    sym (over-cast c.in_ok-part.part c.args.e.now c.in_default.not-Repeat c.in_default.not-AsSigned c.in_default.not-Unary c.in_default.not-Shift) ∙ ap (with_part (out-Expr c.args.e.now)) (c.in_ok-part.ensures is part)
+    sym (over-cast c.in_ok-part.part c.args.e.now c.in_default.not-Repeat c.in_default.not-AsSigned
+    c.in_default.not-Unary c.in_default.not-Shift)
+    ∙ ap (with_part (out-Expr c.args.e.now)) (c.in_ok-part.ensures is part)

@@ -12,11 +12,15 @@ use Rattle.st_wrap.proofs.renaming.put_wires.Goals.{then-not-is_shared, else-not
 use Rattle.st_wrap.proofs.renaming.put_wires.Goals as goal
 
 -- the wires of one more port behind those of the ports before it
-more-wires : {ports items : List Port} {i : ℕ} {x : Port} {old mid new out : Listing ModItem} → items ≡ ports → x ≡ get_or items i x → i < length items → Lists old mid (flat_map wires_for (take i ports)) → Lists mid new (wires_for x) → out ≡ new
+more-wires : {ports items : List Port} {i : ℕ} {x : Port} {old mid new out : Listing ModItem} → items ≡ ports
+    → x ≡ get_or items i x → i < length items → Lists old mid (flat_map wires_for (take i ports))
+    → Lists mid new (wires_for x) → out ≡ new
     → Lists old out (flat_map wires_for (take (i + 1) ports))
 more-wires {ports} {items} {i} {x} {old} {mid} {new} {out} same is below before put now =
     subst (λ (o : Listing ModItem). Lists old o (flat_map wires_for (take (i + 1) ports))) (sym now)
-    (subst (λ (xs : List Port). Lists old mid (flat_map wires_for (take i xs)) → Lists old new (flat_map wires_for (take (i + 1) xs))) same (λ all. one-more items i x below is wires_for all put) before)
+    (subst (λ (xs : List Port). Lists old mid (flat_map wires_for (take i xs))
+    → Lists old new (flat_map wires_for (take (i + 1) xs))) same
+    (λ all. one-more items i x below is wires_for all put) before)
 
 pub loop-port-init : goal.loop-port-init
 loop-port-init c = none-put c.args.out.now

@@ -16,10 +16,20 @@ columns-length : (core : Module) (names : List (List ℕ)) → length (map (outp
 columns-length core names = length-map (zip (stimulus_ports core) names) (output_column (clocks_of core) 0)
 
 pub slice_bounds-others-start : goal.slice_bounds-others-start
-slice_bounds-others-start c = omega (arith, ap length (c.as_slice-ins.ensures ∙ c.in_ok-inputs.ensures), columns-length c.args.core.now c.args.names.now, length-zip (stimulus_ports c.args.core.now) c.args.names.now)
+slice_bounds-others-start c = omega (
+  arith,
+  ap length (c.as_slice-ins.ensures ∙ c.in_ok-inputs.ensures),
+  columns-length c.args.core.now c.args.names.now,
+  length-zip (stimulus_ports c.args.core.now) c.args.names.now,
+)
 
 pub slice_bounds-others-count : goal.slice_bounds-others-count
-slice_bounds-others-count c = omega (arith, ap length (c.as_slice-ins.ensures ∙ c.in_ok-inputs.ensures), columns-length c.args.core.now c.args.names.now, length-zip (stimulus_ports c.args.core.now) c.args.names.now)
+slice_bounds-others-count c = omega (
+  arith,
+  ap length (c.as_slice-ins.ensures ∙ c.in_ok-inputs.ensures),
+  columns-length c.args.core.now c.args.names.now,
+  length-zip (stimulus_ports c.args.core.now) c.args.names.now,
+)
 
 pub returns : goal.returns
 returns c =

@@ -11,8 +11,13 @@ pub returns : goal.returns
 returns c =
     let r = c.requires in
     record {
-      header = IfOk-weaker c.module_of.result _ _ (λ m is. subst (HasStreamHeader c.args.core.now c.args.names.now) (sym is.is) (has-header c.args.core.now c.args.names.now is.counters)) c.module_of.ensures;
-      conditions = IfOk-weaker c.module_of.result _ _ (λ m is. subst BreaksNone (sym is.is) (breaks-none c.args.core.now c.args.names.now is.counters is.counted r.sound r.stallable r.names)) c.module_of.ensures;
+      header = IfOk-weaker c.module_of.result _ _
+          (λ m is. subst (HasStreamHeader c.args.core.now c.args.names.now) (sym is.is)
+          (has-header c.args.core.now c.args.names.now is.counters)) c.module_of.ensures;
+      conditions = IfOk-weaker c.module_of.result _ _
+          (λ m is. subst BreaksNone (sym is.is)
+          (breaks-none c.args.core.now c.args.names.now is.counters is.counted r.sound r.stallable r.names))
+          c.module_of.ensures;
       products = IfOk-weaker c.module_of.result _ _ (λ m is. counts-products c.args.core.now c.args.names.now m is) c.module_of.ensures;
       spelled = IfOk-weaker c.module_of.result _ _ (λ m is. is-spelled c.sound_modules_spell.ensures c.args.core.now c.args.names.now m is r.sound r.stallable r.names) c.module_of.ensures;
       handshake = IfOk-weaker c.module_of.result _ _ (λ m is. subst (ShakesHands c.args.core.now) (sym is.is)

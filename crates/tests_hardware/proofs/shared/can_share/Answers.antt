@@ -10,4 +10,6 @@ loop-j-preserved c =
 pub returns : goal.returns
 returns c =
     let are : c.are_operations.result ≡ true = search rules in
-    λ used. shared-of c.args.net.now c.args.operations.now c.in_ok-count.count (c.are_operations.ensures are) (λ i h. c.loop-j.invariant i (omega (arith, h, c.loop-j-test.false))) (c.are_used.ensures used) c.in_ok-count.ensures
+    λ used. shared-of c.args.net.now c.args.operations.now c.in_ok-count.count (c.are_operations.ensures are)
+    (λ i h. c.loop-j.invariant i (omega (arith, h, c.loop-j-test.false)))
+    (c.are_used.ensures used) c.in_ok-count.ensures

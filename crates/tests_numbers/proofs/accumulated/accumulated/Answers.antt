@@ -15,7 +15,19 @@ of_all P a b c first second third (suc (suc (suc k))) d low = absurd (omega arit
 pub of_three-requires-clause-full_type : goal.of_three-requires-clause-full_type
 of_three-requires-clause-full_type c =
     of_all (λ term. (full : FxType) × IsFullSum ((false, c.in_ok-own.own) ∷ term ∷ []) full)
-    (c.in_ok-p.p, c.in_ok-p.a.kind) (c.in_ok-q.q, c.in_ok-q.b.kind) (c.in_ok-r.r, c.in_ok-r.c.kind)
-    (c.in-Ok-Ok-Ok.field-0-0, subst (λ (r : Result FxType TooWide). IfOk r (λ full. IsFullSum ((false, c.in_ok-own.own) ∷ (c.in_ok-p.p, c.in_ok-p.a.kind) ∷ []) full)) c.in-Ok-Ok-Ok.is-0 c.full_sum-first.ensures.ok)
-    (c.in-Ok-Ok-Ok.field-0-1, subst (λ (r : Result FxType TooWide). IfOk r (λ full. IsFullSum ((false, c.in_ok-own.own) ∷ (c.in_ok-q.q, c.in_ok-q.b.kind) ∷ []) full)) c.in-Ok-Ok-Ok.is-1 c.full_sum-second.ensures.ok)
-    (c.in-Ok-Ok-Ok.field-0-2, subst (λ (r : Result FxType TooWide). IfOk r (λ full. IsFullSum ((false, c.in_ok-own.own) ∷ (c.in_ok-r.r, c.in_ok-r.c.kind) ∷ []) full)) c.in-Ok-Ok-Ok.is-2 c.full_sum-third.ensures.ok)
+    (c.in_ok-p.p, c.in_ok-p.a.kind) (c.in_ok-q.q, c.in_ok-q.b.kind) (c.in_ok-r.r, c.in_ok-r.c.kind) (
+      c.in-Ok-Ok-Ok.field-0-0,
+      subst (λ (r : Result FxType TooWide). IfOk r
+          (λ full. IsFullSum ((false, c.in_ok-own.own) ∷ (c.in_ok-p.p, c.in_ok-p.a.kind) ∷ []) full))
+          c.in-Ok-Ok-Ok.is-0 c.full_sum-first.ensures.ok,
+    ) (
+      c.in-Ok-Ok-Ok.field-0-1,
+      subst (λ (r : Result FxType TooWide). IfOk r
+          (λ full. IsFullSum ((false, c.in_ok-own.own) ∷ (c.in_ok-q.q, c.in_ok-q.b.kind) ∷ []) full))
+          c.in-Ok-Ok-Ok.is-1 c.full_sum-second.ensures.ok,
+    ) (
+      c.in-Ok-Ok-Ok.field-0-2,
+      subst (λ (r : Result FxType TooWide). IfOk r
+          (λ full. IsFullSum ((false, c.in_ok-own.own) ∷ (c.in_ok-r.r, c.in_ok-r.c.kind) ∷ []) full))
+          c.in-Ok-Ok-Ok.is-2 c.full_sum-third.ensures.ok,
+    )

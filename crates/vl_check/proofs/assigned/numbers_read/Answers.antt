@@ -21,6 +21,8 @@ returns c =
     let put = has-more (none-had c.new.result c.new.ensures.items) c.push_names.ensures in
     let reads = c.in_ok-reads.ensures in
     c.loop-mention.invariant
-    ∙ ap (λ (xs : List MentionHere). map (number_at scope) (map mentioned (shown xs))) (take_all c.loop-mention.mention-index c.as_slice-mention-items.result.now c.loop-mention-test.false ∙ c.as_slice-mention-items.ensures.value ∙ reads.1)
+    ∙ ap (λ (xs : List MentionHere). map (number_at scope) (map mentioned (shown xs)))
+    (take_all c.loop-mention.mention-index c.as_slice-mention-items.result.now c.loop-mention-test.false
+    ∙ c.as_slice-mention-items.ensures.value ∙ reads.1)
     ∙ ap (λ (xs : List Mention). map (number_at scope) (map mentioned xs)) (put.whole reads.0)
     ∙ ap (map (number_at scope)) (names-of-reads (names_read c.args.e.now))

@@ -12,7 +12,9 @@ use Rattle.vl_check.proofs.ScopeNames.{scope-is}
 use Rattle.vl_check.proofs.checking.known_of.Goals as goal
 
 -- the names of a whole text are numbered
-whole-text : (text : List Mention) (i : ℕ) (names : List (List ℕ)) (numbers : List ℕ) → length text ≤ i → Numbered (take i (map mentioned (shown text))) names numbers → Numbered (map mentioned (shown text)) names numbers
+whole-text : (text : List Mention) (i : ℕ) (names : List (List ℕ)) (numbers : List ℕ) → length text ≤ i
+    → Numbered (take i (map mentioned (shown text))) names numbers
+    → Numbered (map mentioned (shown text)) names numbers
 whole-text text i names numbers past n =
     let long = length-map (shown text) mentioned ∙ length-map text mention_of in
     subst (λ ns. Numbered ns names numbers) (take_all i (map mentioned (shown text)) (omega (arith, long, past))) n
@@ -43,7 +45,10 @@ counted keys n e = length-map keys (λ (x : Bor (List ℕ)). x.now) ∙ sym e
 pub first_declarations-requires : goal.first_declarations-requires
 first_declarations-requires c =
     let names = map mentioned (shown c.args.text.now) in
-    let n = numbered-apart names (texts c.loop-mention.known.names.items) c.loop-mention.known.numbers.items (whole-text c.args.text.now c.loop-mention.mention-index (texts c.loop-mention.known.names.items) c.loop-mention.known.numbers.items c.loop-mention-test.false c.loop-mention.invariant.numbers) in
+    let n = numbered-apart names (texts c.loop-mention.known.names.items) c.loop-mention.known.numbers.items
+    (whole-text c.args.text.now c.loop-mention.mention-index
+    (texts c.loop-mention.known.names.items) c.loop-mention.known.numbers.items c.loop-mention-test.false
+    c.loop-mention.invariant.numbers) in
     let ns = c.loop-mention.known.numbers.items in
     let same : c.as_slice.result.now ≡ ns = c.as_slice.ensures.value in
     numbered-text c.args.text.now c.as_slice.result.now c.len.result (subst (λ xs. AreNumbers names xs c.len.result) (sym same)
@@ -53,11 +58,20 @@ pub returns : goal.returns
 returns c m whole =
     let names = map mentioned (shown c.args.text.now) in
     let ns = c.loop-mention.known.numbers.items in
-    let n = numbered-apart names (texts c.loop-mention.known.names.items) ns (whole-text c.args.text.now c.loop-mention.mention-index (texts c.loop-mention.known.names.items) c.loop-mention.known.numbers.items c.loop-mention-test.false c.loop-mention.invariant.numbers) in
+    let n = numbered-apart names (texts c.loop-mention.known.names.items) ns
+    (whole-text c.args.text.now c.loop-mention.mention-index
+    (texts c.loop-mention.known.names.items) c.loop-mention.known.numbers.items c.loop-mention-test.false
+    c.loop-mention.invariant.numbers) in
     let first = subst (λ xs. AreFirst names xs c.in_ok-declared.declared.items (shown c.args.text.now)) c.as_slice.ensures.value c.in_ok-declared.ensures.first in
     record {
       whole = whole;
-      scope = scope-is m _ c.args.text.now ns whole (whole-text c.args.text.now c.loop-mention.mention-index (texts c.loop-mention.known.names.items) c.loop-mention.known.numbers.items c.loop-mention-test.false c.loop-mention.invariant.numbers) first;
-      numbers = numbered-text c.args.text.now ns _ (subst (λ k. AreNumbers names ns k) (counted _ c.len.result (c.len.ensures ∙ c.loop-mention.known.names.ok.0) ∙ sym c.in_ok-declared.ensures.long) n);
+      scope = scope-is m _ c.args.text.now ns whole
+          (whole-text c.args.text.now c.loop-mention.mention-index
+          (texts c.loop-mention.known.names.items) c.loop-mention.known.numbers.items c.loop-mention-test.false
+          c.loop-mention.invariant.numbers) first;
+      numbers = numbered-text c.args.text.now ns _
+          (subst (λ k. AreNumbers names ns k)
+          (counted _ c.len.result (c.len.ensures ∙ c.loop-mention.known.names.ok.0)
+          ∙ sym c.in_ok-declared.ensures.long) n);
       first = first;
     }

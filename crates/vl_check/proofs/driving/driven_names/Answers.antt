@@ -17,7 +17,9 @@ loop-i-preserved c =
     let old = c.loop-i.invariant in
     record {
       long = marks-long _ _ _ _ c.mark.ensures ∙ old.long;
-      marks = marks-step c.args.text.now c.loop-i.i _ c.loop-i-test.true is_driver_of drives driver-test c.args.numbers.now c.args.count c.requires.known c.loop-i.driven.items _ _ old.long c.drives.ensures c.mark.ensures old.marks;
+      marks = marks-step c.args.text.now c.loop-i.i _ c.loop-i-test.true is_driver_of drives driver-test
+          c.args.numbers.now c.args.count c.requires.known c.loop-i.driven.items _ _ old.long c.drives.ensures
+          c.mark.ensures old.marks;
     }
 
 pub returns : goal.returns
@@ -25,7 +27,10 @@ returns c =
     let text = c.args.text.now in
     record {
       long = c.loop-i.invariant.long;
-      marks = subst (λ part. Marks is_driver_of (map mentioned (shown text)) c.args.numbers.now c.loop-i.driven.items part) (take_all c.loop-i.i (shown text) (past-all text c.loop-i.i c.loop-i-test.false)) c.loop-i.invariant.marks;
+      marks = subst (λ part. Marks is_driver_of
+          (map mentioned (shown text)) c.args.numbers.now c.loop-i.driven.items part)
+          (take_all c.loop-i.i (shown text) (past-all text c.loop-i.i c.loop-i-test.false))
+          c.loop-i.invariant.marks;
     }
 
 pub bounds-numbers-i : goal.bounds-numbers-i

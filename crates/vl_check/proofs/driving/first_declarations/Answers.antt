@@ -26,7 +26,9 @@ returns c =
     let text = c.args.text.now in
     record {
       long = c.loop-i.invariant.long;
-      first = subst (λ part. AreFirst (map mentioned (shown text)) c.args.numbers.now c.loop-i.first.items part) (take_all c.loop-i.i (shown text) (past-all text c.loop-i.i c.loop-i-test.false)) c.loop-i.invariant.first;
+      first = subst (λ part. AreFirst (map mentioned (shown text)) c.args.numbers.now c.loop-i.first.items part)
+          (take_all c.loop-i.i (shown text) (past-all text c.loop-i.i c.loop-i-test.false))
+          c.loop-i.invariant.first;
     }
 
 pub bounds-numbers-i : goal.bounds-numbers-i

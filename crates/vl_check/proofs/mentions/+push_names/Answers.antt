@@ -35,7 +35,8 @@ loop-part-init t c = none-put c.args.mentions.now
 
 pub loop-part-preserved : goal.loop-part-preserved
 loop-part-preserved t c =
-    part-more c.as_slice-part-items.result.now c.loop-part.part-index c.part-item.result c.part-item.result c.loop-part-test.true c.part-item.is (λ i. c.part-item.result) c.loop-part.invariant c.push_names.ensures
+    part-more c.as_slice-part-items.result.now c.loop-part.part-index c.part-item.result c.part-item.result
+    c.loop-part-test.true c.part-item.is (λ i. c.part-item.result) c.loop-part.invariant c.push_names.ensures
 
 pub returns-after-loop-part : goal.returns-after-loop-part
 returns-after-loop-part t c =

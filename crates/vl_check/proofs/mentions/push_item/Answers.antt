@@ -21,5 +21,7 @@ returns-in-Assign c =
 pub returns-in-Always : goal.returns-in-Always
 returns-in-Always c =
     puts-as
-    ((λ i. Clocks ∷ Drives true (c.bytes-in-Always.ensures i) ∷ sym (map-append Reads (condition_names c.in-Always.condition) (names_read c.in-Always.value)) i) ∙ ap item_mentions (sym c.in-Always.is))
+    ((λ i. Clocks ∷ Drives true (c.bytes-in-Always.ensures i)
+    ∷ sym (map-append Reads (condition_names c.in-Always.condition) (names_read c.in-Always.value)) i)
+    ∙ ap item_mentions (sym c.in-Always.is))
     (both c.push.ensures (both c.push_driven-in-Always.ensures (both c.push_condition.ensures c.push_names-in-Always.ensures)))

@@ -47,5 +47,10 @@ returns-in_ok-names-in-Cycle g c =
     let n = subst (λ xs. IsNoted c.args.scope.now xs a.places.items a.reads.items) (c.as_slice.ensures ∙ ap (λ (m : Module). m.items) (sym c.requires.0)) c.in_ok-places.ensures in
     let s : IsCycle a.reads.items c.in-Cycle.cycle.items = sorted a.reads.items c.as_slice-2.result.now c.in_ok-order.field-0 _ c.as_slice-2.ensures.value c.in-Cycle.is c.in_ok-order.ensures in
     let begins = subst (λ xs. IsBeginning g.of c.args.scope.now xs c.in_ok-at-in-Cycle.at) c.as_slice-in-Cycle.ensures.value c.in_ok-at-in-Cycle.ensures in
-    let turned = subst (λ xs. IsTurned (names_in c.args.scope.now) xs c.in_ok-at-in-Cycle.at c.in_ok-names-in-Cycle.names) c.as_slice-in-Cycle-2.ensures.value c.in_ok-names-in-Cycle.ensures in
-    (c.requires.1.driven, c.requires.1.once, turned-loop g.of c.args.scope.now a.places.items a.reads.items c.requires.1.scope c.requires.1.driven c.requires.1.once n c.in-Cycle.cycle.items s c.in_ok-at-in-Cycle.at begins c.in_ok-names-in-Cycle.names turned)
+    let turned = subst (λ xs. IsTurned (names_in c.args.scope.now) xs c.in_ok-at-in-Cycle.at c.in_ok-names-in-Cycle.names) c.as_slice-in-Cycle-2.ensures.value c.in_ok-names-in-Cycle.ensures in (
+      c.requires.1.driven,
+      c.requires.1.once,
+      turned-loop g.of c.args.scope.now a.places.items a.reads.items c.requires.1.scope c.requires.1.driven
+          c.requires.1.once n c.in-Cycle.cycle.items s c.in_ok-at-in-Cycle.at begins c.in_ok-names-in-Cycle.names
+          turned,
+    )

@@ -6,7 +6,9 @@ use Rattle.vl_check.proofs.ordering.marks_of.Goals as goal
 
 pub loop-number-preserved : goal.loop-number-preserved
 loop-number-preserved c =
-    marked-more c.args.numbers.now c.loop-number.number-index c.args.count c.loop-number.marks.items c.loop-number-test.true (c.requires c.loop-number.number-index c.loop-number-test.true) c.loop-number.invariant
+    marked-more c.args.numbers.now c.loop-number.number-index c.args.count c.loop-number.marks.items
+    c.loop-number-test.true
+    (c.requires c.loop-number.number-index c.loop-number-test.true) c.loop-number.invariant
 
 pub bounds-numbers-number-index : goal.bounds-numbers-number-index
 bounds-numbers-number-index c = c.loop-number-test.true

@@ -3,7 +3,8 @@ use Rattle.vl_ast.specs.Conditions.{is_sound}
 use Rattle.std.specs.List.{list_all}
 use Rattle.vl_check.specs.Scope.{nets_in}
 use Rattle.vl_check.specs.Shape.{narrow, bit_shape, part_shape, shape_in}
-use Rattle.vl_check.proofs.FormShapes.{shape-name, shape-bit, shape-part, shape-literal, shape-repeat, shape-as-signed, shape-as-unsigned, shape-unary, shape-two, shape-shift, shape-three, shape-concat, part-more, part-sound, part-bad, part-long, lengths}
+use Rattle.vl_check.proofs.FormShapes.{shape-name, shape-bit, shape-part, shape-literal, shape-repeat, shape-as-signed, shape-as-unsigned, shape-unary, shape-two, shape-shift, shape-three}
+use Rattle.vl_check.proofs.FormShapes.{shape-concat, part-more, part-sound, part-bad, part-long, lengths}
 use Rattle.std.proofs.lemmas.List.{take_all}
 use Rattle.vl_check.proofs.shapes.+sound_shape.Goals as goal
 
@@ -47,7 +48,9 @@ pub sound_shape-returns-in-AsUnsigned : goal.sound_shape-returns-in-AsUnsigned
 sound_shape-returns-in-AsUnsigned t c =
     let nets = nets_in c.args.scope.now in
     let a = c.in-AsUnsigned in
-    c.cast_shape-in-AsUnsigned.ensures ∙ sym (shape-as-unsigned nets a.part _ (ap (shape_in nets) (sym c.get-in-AsUnsigned.ensures) ∙ sym c.sound_shape-in-AsUnsigned.ensures)) ∙ ap (shape_in nets) (sym a.is)
+    c.cast_shape-in-AsUnsigned.ensures ∙ sym
+    (shape-as-unsigned nets a.part _ (ap (shape_in nets) (sym c.get-in-AsUnsigned.ensures)
+    ∙ sym c.sound_shape-in-AsUnsigned.ensures)) ∙ ap (shape_in nets) (sym a.is)
 
 pub sound_shape-returns-in-Unary : goal.sound_shape-returns-in-Unary
 sound_shape-returns-in-Unary t c =
@@ -65,13 +68,20 @@ pub sound_shape-returns-in-Binary : goal.sound_shape-returns-in-Binary
 sound_shape-returns-in-Binary t c =
     let nets = nets_in c.args.scope.now in
     let a = c.in-Binary in
-    c.binary_shape.ensures ∙ sym (shape-two nets a.op a.left a.right _ _ (ap (shape_in nets) (sym c.get-in-Binary.ensures) ∙ sym c.sound_shape-in-Binary.ensures) (ap (shape_in nets) (sym c.get-in-Binary-2.ensures) ∙ sym c.sound_shape-in-Binary-2.ensures)) ∙ ap (shape_in nets) (sym a.is)
+    c.binary_shape.ensures ∙ sym (shape-two nets a.op a.left a.right _ _
+    (ap (shape_in nets) (sym c.get-in-Binary.ensures) ∙ sym c.sound_shape-in-Binary.ensures)
+    (ap (shape_in nets) (sym c.get-in-Binary-2.ensures) ∙ sym c.sound_shape-in-Binary-2.ensures))
+    ∙ ap (shape_in nets) (sym a.is)
 
 pub sound_shape-returns-in-Choose : goal.sound_shape-returns-in-Choose
 sound_shape-returns-in-Choose t c =
     let nets = nets_in c.args.scope.now in
     let a = c.in-Choose in
-    c.choice_shape.ensures ∙ sym (shape-three nets a.test a.chosen a.other _ _ _ (ap (shape_in nets) (sym c.get-in-Choose.ensures) ∙ sym c.sound_shape-in-Choose.ensures) (ap (shape_in nets) (sym c.get-in-Choose-2.ensures) ∙ sym c.sound_shape-in-Choose-2.ensures) (ap (shape_in nets) (sym c.get-in-Choose-3.ensures) ∙ sym c.sound_shape-in-Choose-3.ensures)) ∙ ap (shape_in nets) (sym a.is)
+    c.choice_shape.ensures ∙ sym (shape-three nets a.test a.chosen a.other _ _ _
+    (ap (shape_in nets) (sym c.get-in-Choose.ensures) ∙ sym c.sound_shape-in-Choose.ensures)
+    (ap (shape_in nets) (sym c.get-in-Choose-2.ensures) ∙ sym c.sound_shape-in-Choose-2.ensures)
+    (ap (shape_in nets) (sym c.get-in-Choose-3.ensures) ∙ sym c.sound_shape-in-Choose-3.ensures))
+    ∙ ap (shape_in nets) (sym a.is)
 
 pub concat_shape-returns-in_default : goal.concat_shape-returns-in_default
 concat_shape-returns-in_default t c =

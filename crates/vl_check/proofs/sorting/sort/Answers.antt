@@ -10,7 +10,9 @@ pub returns : goal.returns
 returns c = at-end c.args.reads.now c.loop-root.stage.items c.loop-root.order.items c.loop-root.invariant.state (λ v below. c.loop-root.invariant.met v (omega arith))
 
 pub returns-in-Some : goal.returns-in-Some
-returns-in-Some c = subst (λ (cycle : Option (Vec ℕ Global)). IsSearched c.args.reads.now c.as_mut_slice.result.now c.search.new.stage c.search.new.order.items c.loop-root.root (option_map (λ (found : Vec ℕ Global). found.items) cycle)) c.in-Some.is c.in_ok-cycle.ensures
+returns-in-Some c = subst (λ (cycle : Option (Vec ℕ Global)). IsSearched c.args.reads.now c.as_mut_slice.result.now
+    c.search.new.stage c.search.new.order.items c.loop-root.root
+    (option_map (λ (found : Vec ℕ Global). found.items) cycle)) c.in-Some.is c.in_ok-cycle.ensures
 
 pub loop-root-init : goal.loop-root-init
 loop-root-init c =
@@ -48,7 +50,9 @@ loop-root-preserved c =
     elim c.if-index-eq0.branch [
       | then-index-eq0+in_ok-cycle+in_default w ↦
           let after = w.search.new.stage in
-          let found = subst (λ (cycle : Option (Vec ℕ Global)). IsSearched reads w.as_mut_slice.result.now after w.search.new.order.items root (option_map (λ (x : Vec ℕ Global). x.items) cycle)) w.in_default.is w.in_ok-cycle.ensures in
+          let found = subst (λ (cycle : Option (Vec ℕ Global)). IsSearched reads w.as_mut_slice.result.now after
+          w.search.new.order.items root (option_map (λ (x : Vec ℕ Global). x.items) cycle)) w.in_default.is
+          w.in_ok-cycle.ensures in
           let value = w.as_mut_slice.ensures.value in
           let items : stage.items ≡ after = ap (λ (x : Vec ℕ Global). x.items) w.stage-is ∙ with_items_is c.loop-root.stage after (w.search.auto.stage ∙ w.as_mut_slice.ensures.len) in
           let placed : order.items ≡ w.search.new.order.items = ap (λ (x : Vec ℕ Global). x.items) w.order-is in

@@ -13,7 +13,10 @@ use Rattle.vl_check.proofs.SearchFacts.{all-further, tested, none-fails, one-fai
 use Rattle.vl_check.proofs.widths.too_wide.Goals as goal
 
 abbrev wide : List Port → List ModItem → (List ℕ → Net) → Option (List ℕ)
-wide ports items nets = option_map (λ (part : List ℕ × Bool). part.0) (find (λ (part : List ℕ × Bool). not part.1) (tested (λ (port : Port). port.name) (λ port. is_width port.width) ports ++ tested item_name (is_sound_item nets) items))
+wide ports items nets = option_map (λ (part : List ℕ × Bool). part.0)
+    (find (λ (part : List ℕ × Bool). not part.1)
+    (tested (λ (port : Port). port.name) (λ port. is_width port.width) ports
+    ++ tested item_name (is_sound_item nets) items))
 
 option-none : (o : Option (List ℕ × Bool)) → o ≡ None → (p : Option (List ℕ × Bool)) → option_or o p ≡ p
 option-none o e p = ap (λ x. option_or x p) e
@@ -23,7 +26,8 @@ loop-port-init c = refl
 
 pub loop-port-preserved : goal.loop-port-preserved
 loop-port-preserved c =
-    all-further (λ (port : Port). is_width port.width) c.as_slice-port-items.result.now c.args.source.now.ports c.loop-port.port-index c.port-item.result c.as_slice-port-items.ensures c.loop-port-test.true c.port-item.is
+    all-further (λ (port : Port). is_width port.width) c.as_slice-port-items.result.now c.args.source.now.ports
+    c.loop-port.port-index c.port-item.result c.as_slice-port-items.ensures c.loop-port-test.true c.port-item.is
     (sym c.is_width.ensures ∙ c.if-not-is_width.false) c.loop-port.invariant
 
 pub loop-item-init : goal.loop-item-init
@@ -38,7 +42,9 @@ loop-item-init c =
 pub loop-item-preserved : goal.loop-item-preserved
 loop-item-preserved c = record {
   ports = c.loop-item.invariant.ports;
-  items = all-further (is_sound_item (nets_in c.args.scope.now)) c.as_slice-item-items.result.now c.args.source.now.items c.loop-item.item-index c.item-item.result c.as_slice-item-items.ensures c.loop-item-test.true c.item-item.is
+  items = all-further (is_sound_item (nets_in c.args.scope.now)) c.as_slice-item-items.result.now
+      c.args.source.now.items c.loop-item.item-index c.item-item.result c.as_slice-item-items.ensures
+      c.loop-item-test.true c.item-item.is
       (sym c.is_sound_item.ensures ∙ c.if-not-is_sound_item.false) c.loop-item.invariant.items;
 }
 
@@ -51,7 +57,9 @@ returns-then-not-is_width c =
     let found = one-fails (λ (port : Port). port.name) (λ port. is_width port.width) m.ports c.loop-port.port-index c.port-item.result
     (subst (λ xs. c.loop-port.port-index < length xs) is c.loop-port-test.true) (c.port-item.is ∙ ap (λ xs. slice_index_or xs c.loop-port.port-index c.port-item.result) is)
     c.loop-port.invariant (sym c.is_width.ensures ∙ c.if-not-is_width.true) in
-    ap Some c.bytes.ensures ∙ sym (ap (option_map (λ (part : List ℕ × Bool). part.0)) (find-append (λ (part : List ℕ × Bool). not part.1) ports items ∙ ap (λ o. option_or o (find (λ (part : List ℕ × Bool). not part.1) items)) found))
+    ap Some c.bytes.ensures ∙ sym (ap (option_map (λ (part : List ℕ × Bool). part.0))
+    (find-append (λ (part : List ℕ × Bool). not part.1) ports items
+    ∙ ap (λ o. option_or o (find (λ (part : List ℕ × Bool). not part.1) items)) found))
 
 pub returns-then-not-is_sound_item : goal.returns-then-not-is_sound_item
 returns-then-not-is_sound_item c =
@@ -65,7 +73,9 @@ returns-then-not-is_sound_item c =
     c.loop-item.invariant.items (sym c.is_sound_item.ensures ∙ c.if-not-is_sound_item.true) in
     ap Some c.name.ensures
     ∙ sym (ap (option_map (λ (part : List ℕ × Bool). part.0)) (find-append (λ (part : List ℕ × Bool). not part.1) ports items
-    ∙ option-none (find (λ (part : List ℕ × Bool). not part.1) ports) (none-fails (λ (port : Port). port.name) (λ port. is_width port.width) m.ports c.loop-item.invariant.ports) (find (λ (part : List ℕ × Bool). not part.1) items) ∙ found))
+    ∙ option-none (find (λ (part : List ℕ × Bool). not part.1) ports)
+    (none-fails (λ (port : Port). port.name) (λ port. is_width port.width) m.ports c.loop-item.invariant.ports)
+    (find (λ (part : List ℕ × Bool). not part.1) items) ∙ found))
     ∙ ap (wide m.ports m.items) nets
 
 pub returns : goal.returns
@@ -77,6 +87,8 @@ returns c =
     let long : length m.items ≤ c.loop-item.item-index = subst (λ xs. length xs ≤ c.loop-item.item-index) c.as_slice-item-items.ensures c.loop-item-test.false in
     let all = ap (list_all (is_sound_item (nets_in c.args.scope.now))) (sym (take_all c.loop-item.item-index m.items long)) ∙ c.loop-item.invariant.items in
     sym (ap (option_map (λ (part : List ℕ × Bool). part.0)) (find-append (λ (part : List ℕ × Bool). not part.1) ports items
-    ∙ option-none (find (λ (part : List ℕ × Bool). not part.1) ports) (none-fails (λ (port : Port). port.name) (λ port. is_width port.width) m.ports c.loop-item.invariant.ports) (find (λ (part : List ℕ × Bool). not part.1) items)
+    ∙ option-none (find (λ (part : List ℕ × Bool). not part.1) ports)
+    (none-fails (λ (port : Port). port.name) (λ port. is_width port.width) m.ports c.loop-item.invariant.ports)
+    (find (λ (part : List ℕ × Bool). not part.1) items)
     ∙ none-fails item_name (is_sound_item (nets_in c.args.scope.now)) m.items all))
     ∙ ap (wide m.ports m.items) nets

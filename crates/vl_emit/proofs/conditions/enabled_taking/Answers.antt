@@ -17,7 +17,9 @@ test_of-test-requires c = c.operand.ensures.word
 pub returns-then-reset : goal.returns-then-reset
 returns-then-reset c =
     let last = subst (λ (clocks : ℕ). IfOk c.slot_test-last.result (λ e. e ≡ slot_in c.args.source c.args.frame (clocks - 1))) c.clocks.ensures c.slot_test-last.ensures in
-    subst (λ (reset : Bool). IfOk c.with_enable.result (λ e. e ≡ gated_condition (Some (taking_in c.args.source c.args.frame c.args.enable reset)))) (sym c.if-reset.true) (c.with_enable.ensures _ last)
+    subst (λ (reset : Bool). IfOk c.with_enable.result
+    (λ e. e ≡ gated_condition (Some (taking_in c.args.source c.args.frame c.args.enable reset))))
+    (sym c.if-reset.true) (c.with_enable.ensures _ last)
 
 pub returns : goal.returns
 returns c =

@@ -8,5 +8,6 @@ pub returns : goal.returns
 returns c =
     let source = c.args.source in
     let frame = c.args.frame in
-    let bound : c.from-left.result * c.from.result ≡ (frame.period - c.args.live) * cycles_in source = (λ i. (c.from-left.ensures ∙ c.saturating_sub.ensures) i * (c.from.ensures ∙ c.cycles.ensures) i) in
+    let bound : c.from-left.result * c.from.result ≡ (frame.period - c.args.live) * cycles_in source =
+    (λ i. (c.from-left.ensures ∙ c.saturating_sub.ensures) i * (c.from.ensures ∙ c.cycles.ensures) i) in
     subst (λ (n : ℕ). IfOk c.count_test.result (λ e. e ≡ compares GreaterEqual (counter_in source frame) n)) bound c.count_test.ensures

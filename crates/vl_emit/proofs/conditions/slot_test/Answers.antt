@@ -13,5 +13,7 @@ returns c =
     let counter : Wire = counter_in c.args.source c.args.frame in
     let clocks : ℕ = c.args.frame.period * cycles_in c.args.source in
     let within : c.args.slot < clocks = omega (arith, c.if-clocks-slot.false, c.clocks-clocks.ensures) in
-    subst (λ (e : Expr). IfOk c.count_test.result (λ made. made ≡ e)) (sym (cond-true (nat_lt c.args.slot clocks) (counts counter (clocks - 1 - c.args.slot)) (zeros 1) (lt-ltb c.args.slot clocks within)))
+    subst (λ (e : Expr). IfOk c.count_test.result (λ made. made ≡ e))
+    (sym (cond-true (nat_lt c.args.slot clocks) (counts counter (clocks - 1 - c.args.slot)) (zeros 1)
+    (lt-ltb c.args.slot clocks within)))
     (subst (λ (n : ℕ). IfOk c.count_test.result (λ made. made ≡ counts counter (n - 1 - c.args.slot))) c.clocks-clocks.ensures c.count_test.ensures)

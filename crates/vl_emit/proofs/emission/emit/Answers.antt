@@ -33,18 +33,33 @@ returns c =
     let is = c.module_of.ensures.is in
     let small = c.module_of.ensures.few in
     record {
-      header = if-made (module_of c.args.netlist.now) (length c.args.netlist.now.nets < 2 ^ 64) (HasHeader c.args.netlist.now) c.module_of.result is small (λ h. header c.args.netlist.now runs emits h);
+      header = if-made (module_of c.args.netlist.now) (length c.args.netlist.now.nets < 2 ^ 64)
+          (HasHeader c.args.netlist.now) c.module_of.result is small (λ h. header c.args.netlist.now runs emits h);
       conditions = if-made (module_of c.args.netlist.now) (length c.args.netlist.now.nets < 2 ^ 64) BreaksNone c.module_of.result is small (λ h. gated-breaks c.args.netlist.now runs emits h);
       keeps = if-made (module_of c.args.netlist.now) (length c.args.netlist.now.nets < 2 ^ 64) KeepsBits c.module_of.result is small (λ h. keeps-bits c.args.netlist.now runs emits h);
       nets = if-made (module_of c.args.netlist.now) (length c.args.netlist.now.nets < 2 ^ 64) (NetsAreShown c.args.netlist.now) c.module_of.result is small
           (λ h. nets-are-shown c.args.netlist.now runs emits h c.counter_is_telling.ensures c.steps_give_rows.ensures);
-      outputs = if-made (module_of c.args.netlist.now) (length c.args.netlist.now.nets < 2 ^ 64) (OutputsAreShown c.args.netlist.now) c.module_of.result is small (λ h. outputs-are-shown c.args.netlist.now runs emits h);
-      products = if-made (module_of c.args.netlist.now) (length c.args.netlist.now.nets < 2 ^ 64) (ProductsAre c.args.netlist.now) c.module_of.result is small (λ h. products-are c.args.netlist.now runs emits h);
-      reads = if-made (module_of c.args.netlist.now) (length c.args.netlist.now.nets < 2 ^ 64) (ReadsOnly c.args.netlist.now) c.module_of.result is small (λ h. reads-only c.args.netlist.now runs emits h);
-      registers = if-made (module_of c.args.netlist.now) (length c.args.netlist.now.nets < 2 ^ 64) (RegistersAre c.args.netlist.now) c.module_of.result is small (λ h. registers-are c.args.netlist.now runs emits h);
-      labels = if-made (module_of c.args.netlist.now) (length c.args.netlist.now.nets < 2 ^ 64) (LabelsAreNames c.args.netlist.now) c.module_of.result is small (λ h. labels-are c.args.netlist.now runs emits h);
-      items = if-made (module_of c.args.netlist.now) (length c.args.netlist.now.nets < 2 ^ 64) (ItemsAre c.args.netlist.now) c.module_of.result is small (λ h. items-are c.args.netlist.now runs emits h);
-      names = if-made (module_of c.args.netlist.now) (length c.args.netlist.now.nets < 2 ^ 64) (λ m. NamesDiffer c.args.netlist.now) c.module_of.result is small (λ h. names-differ c.args.netlist.now runs emits h);
+      outputs = if-made (module_of c.args.netlist.now) (length c.args.netlist.now.nets < 2 ^ 64)
+          (OutputsAreShown c.args.netlist.now) c.module_of.result is small
+          (λ h. outputs-are-shown c.args.netlist.now runs emits h);
+      products = if-made (module_of c.args.netlist.now) (length c.args.netlist.now.nets < 2 ^ 64)
+          (ProductsAre c.args.netlist.now) c.module_of.result is small
+          (λ h. products-are c.args.netlist.now runs emits h);
+      reads = if-made (module_of c.args.netlist.now) (length c.args.netlist.now.nets < 2 ^ 64)
+          (ReadsOnly c.args.netlist.now) c.module_of.result is small
+          (λ h. reads-only c.args.netlist.now runs emits h);
+      registers = if-made (module_of c.args.netlist.now) (length c.args.netlist.now.nets < 2 ^ 64)
+          (RegistersAre c.args.netlist.now) c.module_of.result is small
+          (λ h. registers-are c.args.netlist.now runs emits h);
+      labels = if-made (module_of c.args.netlist.now) (length c.args.netlist.now.nets < 2 ^ 64)
+          (LabelsAreNames c.args.netlist.now) c.module_of.result is small
+          (λ h. labels-are c.args.netlist.now runs emits h);
+      items = if-made (module_of c.args.netlist.now) (length c.args.netlist.now.nets < 2 ^ 64)
+          (ItemsAre c.args.netlist.now) c.module_of.result is small
+          (λ h. items-are c.args.netlist.now runs emits h);
+      names = if-made (module_of c.args.netlist.now) (length c.args.netlist.now.nets < 2 ^ 64)
+          (λ m. NamesDiffer c.args.netlist.now) c.module_of.result is small
+          (λ h. names-differ c.args.netlist.now runs emits h);
       spelled = if-made (module_of c.args.netlist.now) (length c.args.netlist.now.nets < 2 ^ 64) (λ m. Spells (spelling m) m) c.module_of.result is small (λ h. spells c.args.netlist.now runs emits h);
       fit = if-made (module_of c.args.netlist.now) (length c.args.netlist.now.nets < 2 ^ 64) (NetsFit c.args.netlist.now) c.module_of.result is small (λ h. nets-fit c.args.netlist.now runs emits h);
     }

@@ -30,5 +30,7 @@ items_of-items-requires c =
 pub returns-clause-is : goal.returns-clause-is
 returns-clause-is c =
     let n = c.args.netlist.now in
-    IfOk-weaker c.whole_module.result _ _ (λ m is. is ∙ ap (λ k. module_with (codes "fx_model") k (ports_of n) (map gated_item (items_of n ++ shows_enable ∷ []))) (c.from-cycles.ensures ∙ c.cycles.ensures))
+    IfOk-weaker c.whole_module.result _ _
+    (λ m is. is ∙ ap (λ k. module_with (codes "fx_model") k (ports_of n)
+    (map gated_item (items_of n ++ shows_enable ∷ []))) (c.from-cycles.ensures ∙ c.cycles.ensures))
     (c.whole_module.ensures _ _ c.ports_of-ports.ensures c.items_of-items.ensures)

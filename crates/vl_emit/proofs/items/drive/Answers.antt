@@ -29,7 +29,9 @@ returns-in-Unit c = lists-as (ap (λ (kind : NetKind). map gated_item (others_at
 pub returns-in-Comb : goal.returns-in-Comb
 returns-in-Comb c =
     lists-as (ap (λ (kind : NetKind). map gated_item (others_at (circuit_of c.args.source) c.args.own kind)) (sym c.in-Comb.is))
-    (subst (λ (args : List ℕ). Lists c.args.out.now c.put_comb.new.out (map gated_item (others_at (circuit_of c.args.source) c.args.own (Comb c.in-Comb.op args)))) c.as_slice.ensures c.put_comb.ensures)
+    (subst (λ (args : List ℕ). Lists c.args.out.now c.put_comb.new.out
+    (map gated_item (others_at (circuit_of c.args.source) c.args.own (Comb c.in-Comb.op args))))
+    c.as_slice.ensures c.put_comb.ensures)
 
 pub returns-in-Counter : goal.returns-in-Counter
 returns-in-Counter c = lists-as (ap (λ (kind : NetKind). map gated_item (others_at (circuit_of c.args.source) c.args.own kind)) (sym c.in-Counter.is)) c.put_counter.ensures

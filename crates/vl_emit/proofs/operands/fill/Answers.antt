@@ -14,4 +14,6 @@ pub returns : goal.returns
 returns c =
     let w = wire_at c.args.operand in
     let sign : Bool → Expr = λ b. if b then Repeat c.args.count (Bit w.name (w.width - 1)) else zeros c.args.count in
-    ap (λ (e : Expr). Repeat c.args.count e) (c.in_ok-in_box.ensures _ refl) ∙ ap (λ (name : List ℕ). Repeat c.args.count (Bit name (w.width - 1))) c.in_ok-text_of.ensures ∙ ap sign (sym c.if-not-operand.false)
+    ap (λ (e : Expr). Repeat c.args.count e) (c.in_ok-in_box.ensures _ refl)
+    ∙ ap (λ (name : List ℕ). Repeat c.args.count (Bit name (w.width - 1))) c.in_ok-text_of.ensures
+    ∙ ap sign (sym c.if-not-operand.false)

@@ -14,4 +14,6 @@ returns c =
     let amount = c.plain-amount.ensures ∙ ap (plain_number 8) c.from-2.ensures in
     let within : c.args.places < c.args.width = omega (arith, c.if-width-from.false, c.from.ensures) in
     (λ i. Shift Left (part i) (amount i))
-    ∙ sym (cond-true (nat_lt c.args.places c.args.width) (Shift Left (at_width c.args.width (wire_at c.args.operand)) (plain_number 8 c.args.places)) (zeros c.args.width) (lt-ltb c.args.places c.args.width within))
+    ∙ sym (cond-true (nat_lt c.args.places c.args.width)
+    (Shift Left (at_width c.args.width (wire_at c.args.operand)) (plain_number 8 c.args.places))
+    (zeros c.args.width) (lt-ltb c.args.places c.args.width within))

@@ -6,7 +6,9 @@ use Rattle.vl_emit.proofs.operators.slice_at.Goals as goal
 
 pub returns-then-width-count : goal.returns-then-width-count
 returns-then-width-count c =
-    subst (λ (e : Expr). IfOk c.piece.result (λ made. made ≡ e)) (sym (slice-short (wire_at c.args.operand) c.args.low c.args.width (c.args.high + 1 - c.args.low) c.if-width-count.true)) c.piece.ensures
+    subst (λ (e : Expr). IfOk c.piece.result (λ made. made ≡ e))
+    (sym (slice-short (wire_at c.args.operand) c.args.low c.args.width
+    (c.args.high + 1 - c.args.low) c.if-width-count.true)) c.piece.ensures
 
 pub returns : goal.returns
 returns c =

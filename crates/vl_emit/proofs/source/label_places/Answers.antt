@@ -23,5 +23,11 @@ loop-left-preserved c =
     let within : (label_at c.args.labels.now (c.loop-left.left - 1)).net < c.args.count =
     c.requires (label_at c.args.labels.now (c.loop-left.left - 1)) (at-contains c.args.labels.now (c.loop-left.left - 1) _ h) in
     let step = index-step c.args.labels.now (c.loop-left.left - 1) c.args.count c.loop-left.places.items h within is in
-    let same : label_at c.args.labels.now (c.loop-left.left - 1) ≡ get_or c.args.labels.now (c.loop-left.left - 1) c.index-labels-left.result = get_or_default c.args.labels.now (c.loop-left.left - 1) _ _ h in
-    (omega (arith, h), subst (λ (label : NetLabel). IsIndexFrom c.args.labels.now (drop (c.loop-left.left - 1) c.args.labels.now) c.args.count (set c.loop-left.places.items label.net (Some (c.loop-left.left - 1)))) same step)
+    let same : label_at c.args.labels.now (c.loop-left.left - 1)
+    ≡ get_or c.args.labels.now (c.loop-left.left - 1) c.index-labels-left.result =
+    get_or_default c.args.labels.now (c.loop-left.left - 1) _ _ h in (
+      omega (arith, h),
+      subst (λ (label : NetLabel). IsIndexFrom c.args.labels.now
+          (drop (c.loop-left.left - 1) c.args.labels.now) c.args.count
+          (set c.loop-left.places.items label.net (Some (c.loop-left.left - 1)))) same step,
+    )

@@ -11,7 +11,9 @@ level_of-level-requires-clause-within c =
     let k = c.loop-number.number in
     let below : k < length ops = omega (arith, c.loop-number-test.true, c.len-number-end.ensures) in
     let op = c.get-op.result in
-    reads-levelled c.args.base ops c.as_slice.result.now k op c.requires.ordered below (ap length c.as_slice.ensures.value ∙ c.loop-number.invariant.levels_long ∙ length-take-le k ops (omega (arith, below)))
+    reads-levelled c.args.base ops c.as_slice.result.now k op c.requires.ordered below
+    (ap length c.as_slice.ensures.value ∙ c.loop-number.invariant.levels_long
+    ∙ length-take-le k ops (omega (arith, below)))
     (c.get-op.ensures ∙ get_or_default ops k (Constant 0) op below)
 
 pub level_of-level-requires-clause-low : goal.level_of-level-requires-clause-low
@@ -56,5 +58,7 @@ loop-number-preserved c =
 pub returns : goal.returns
 returns c = record {
   levels = c.loop-number.levels.items;
-  are = subst (λ os. AreEntered c.args.base os c.loop-number.levels.items c.loop-number.entries.items) (take_all c.loop-number.number c.args.ops.now (omega (arith, c.loop-number-test.false, c.len-number-end.ensures))) c.loop-number.invariant;
+  are = subst (λ os. AreEntered c.args.base os c.loop-number.levels.items c.loop-number.entries.items)
+      (take_all c.loop-number.number c.args.ops.now
+      (omega (arith, c.loop-number-test.false, c.len-number-end.ensures))) c.loop-number.invariant;
 }

@@ -16,9 +16,12 @@ pub returns-then-shape-width : goal.returns-then-shape-width
 returns-then-shape-width c = λ fine.
     let site = c.args.site.now in
     let b = c.build-slot.ensures fine in
-    let built = subst (λ n. Built site.base site.scope.now site.slots.now c.args.ops.now.code c.build-slot.new.ops.code c.build-slot.result n c.shape_of-shape.result.signed c.args.e.now) c.max-length.ensures b.1 in (
+    let built = subst (λ n. Built site.base site.scope.now site.slots.now c.args.ops.now.code
+    c.build-slot.new.ops.code c.build-slot.result n c.shape_of-shape.result.signed c.args.e.now)
+    c.max-length.ensures b.1 in (
       b.0,
-      assigns-whole c.meaning_by_layer.ensures.value site.base site.scope.now site.slots.now c.args.e.now c.args.ops.now.code c.build-slot.new.ops.code c.build-slot.result c.args.width c.shape_of-shape.result
+      assigns-whole c.meaning_by_layer.ensures.value site.base site.scope.now site.slots.now c.args.e.now
+          c.args.ops.now.code c.build-slot.new.ops.code c.build-slot.result c.args.width c.shape_of-shape.result
           c.requires.sound c.shape_of-shape.ensures.length c.shape_of-shape.ensures.sign c.if-shape-width.true built,
     )
 
@@ -27,8 +30,12 @@ returns c = λ fine.
     let site = c.args.site.now in
     let p = c.push.ensures fine in
     let b = c.build-slot.ensures p.0 in
-    let built = subst (λ n. Built site.base site.scope.now site.slots.now c.args.ops.now.code c.build-slot.new.ops.code c.build-slot.result n c.shape_of-shape.result.signed c.args.e.now) c.max-length.ensures b.1 in (
+    let built = subst (λ n. Built site.base site.scope.now site.slots.now c.args.ops.now.code
+    c.build-slot.new.ops.code c.build-slot.result n c.shape_of-shape.result.signed c.args.e.now)
+    c.max-length.ensures b.1 in (
       b.0,
-      assigns-cut c.meaning_by_layer.ensures.value site.base site.scope.now site.slots.now c.args.e.now c.args.ops.now.code c.build-slot.new.ops.code c.push.new.ops.code c.build-slot.result c.push.result c.args.width
+      assigns-cut c.meaning_by_layer.ensures.value site.base site.scope.now site.slots.now c.args.e.now
+          c.args.ops.now.code c.build-slot.new.ops.code c.push.new.ops.code c.build-slot.result c.push.result
+          c.args.width
           c.mask_of-mask.result c.shape_of-shape.result c.shape_of-shape.ensures.length c.shape_of-shape.ensures.sign c.mask_of-mask.ensures built p.1,
     )

@@ -32,4 +32,6 @@ returns-in-Some c =
     let site = c.args.site.now in
     fine-as c.build.ensures
     (λ b. subst (Tests site.base site.scope.now site.slots.now c.args.ops.now.code c.build.new.ops.code c.build.result) (sym c.in-Some.is)
-    (tests-some c.meaning_by_layer.ensures.value site.base site.scope.now site.slots.now c.in-Some.e c.args.ops.now.code c.build.new.ops.code c.build.result c.shape_of-shape.result c.shape_of-shape.ensures.length c.shape_of-shape.ensures.sign b))
+    (tests-some c.meaning_by_layer.ensures.value site.base site.scope.now site.slots.now c.in-Some.e
+    c.args.ops.now.code c.build.new.ops.code c.build.result c.shape_of-shape.result
+    c.shape_of-shape.ensures.length c.shape_of-shape.ensures.sign b))

@@ -33,6 +33,8 @@ returns c = λ fine.
     let test = c.build_condition-test.ensures taken.0 in (
       test.0,
       captures-next c.meaning_by_layer.ensures.value site.base site.scope.now site.slots.now c.args.name.now c.args.first.now c.args.condition.now c.args.value.now
-          c.args.ops.now.code c.build_condition-test.new.ops.code c.build_assigned-taken.new.ops.code c.push.new.ops.code c.net-width.result.length c.build_condition-test.result c.build_assigned-taken.result c.slot.result c.slot-2.result c.first_bits.result c.push.result
+          c.args.ops.now.code c.build_condition-test.new.ops.code c.build_assigned-taken.new.ops.code
+          c.push.new.ops.code c.net-width.result.length c.build_condition-test.result
+          c.build_assigned-taken.result c.slot.result c.slot-2.result c.first_bits.result c.push.result
           (ap (λ (n : Net). n.width) c.net-width.ensures) c.first_bits.ensures c.slot.ensures c.slot-2.ensures (c.requires.placed test.0) test.1 taken.1 p.1,
     )

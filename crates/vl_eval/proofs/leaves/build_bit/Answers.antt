@@ -15,6 +15,8 @@ returns c = λ fine.
     let few = placed.few c.args.name.now here in
     let low = sound-bit (nets_in site.scope.now) c.args.name.now c.args.low c.requires.sound in (
       p.0,
-      built-bit c.requires.by_layer site.base site.scope.now site.slots.now c.args.name.now c.args.low c.args.ops.now.code c.push.new.ops.code c.slot-part.result c.push.result c.args.context.length c.args.context.signed
+      built-bit c.requires.by_layer site.base site.scope.now site.slots.now c.args.name.now c.args.low
+          c.args.ops.now.code c.push.new.ops.code c.slot-part.result c.push.result c.args.context.length
+          c.args.context.signed
           c.slot-part.ensures (placed.below c.args.name.now here) (omega (arith, few, low)) p.1,
     )

@@ -18,6 +18,8 @@ returns c = λ fine.
     let site = c.args.site.now in
     let p = c.push.ensures fine in (
       p.0,
-      built-literal c.requires.by_layer site.base site.scope.now site.slots.now c.args.number.now c.args.ops.now.code c.push.new.ops.code c.literal-bits.result c.push.result c.args.context.length c.args.context.signed
+      built-literal c.requires.by_layer site.base site.scope.now site.slots.now c.args.number.now
+          c.args.ops.now.code c.push.new.ops.code c.literal-bits.result c.push.result c.args.context.length
+          c.args.context.signed
           c.literal-bits.ensures p.1,
     )

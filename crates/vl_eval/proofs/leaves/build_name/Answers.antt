@@ -11,8 +11,12 @@ use Rattle.vl_eval.proofs.leaves.build_name.Goals as goal
 pub returns-then-not-context : goal.returns-then-not-context
 returns-then-not-context c = λ fine.
     let site = c.args.site.now in
-    let below = (c.requires.placed fine).below c.args.name.now (subst (λ ns. Contains ns c.args.name.now) (sym (names-name (nets_in site.scope.now) c.args.name.now)) (head-in c.args.name.now [])) in
-    (fine, built-name c.requires.by_layer site.base site.scope.now site.slots.now c.args.name.now c.args.ops.now.code c.slot-part.result c.args.context.length c.args.context.signed c.slot-part.ensures below (not-true c.args.context.signed c.if-not-context.true))
+    let below = (c.requires.placed fine).below c.args.name.now (subst (λ ns. Contains ns c.args.name.now) (sym (names-name (nets_in site.scope.now) c.args.name.now)) (head-in c.args.name.now [])) in (
+      fine,
+      built-name c.requires.by_layer site.base site.scope.now site.slots.now c.args.name.now
+          c.args.ops.now.code c.slot-part.result c.args.context.length c.args.context.signed c.slot-part.ensures below
+          (not-true c.args.context.signed c.if-not-context.true),
+    )
 
 pub extend-requires-clause-longer : goal.extend-requires-clause-longer
 extend-requires-clause-longer c =
@@ -33,6 +37,8 @@ returns c = λ fine.
     let l = length-name nets c.args.name.now in
     let e = ap (λ (n : Net). n.width) c.net-length.ensures in (
       x.0,
-      built-signed-name c.requires.by_layer site.base site.scope.now site.slots.now c.args.name.now c.args.ops.now.code c.extend.new.ops.code c.slot-part.result c.extend.result c.args.context.length c.net-length.result.length c.args.context.signed
+      built-signed-name c.requires.by_layer site.base site.scope.now site.slots.now c.args.name.now
+          c.args.ops.now.code c.extend.new.ops.code c.slot-part.result c.extend.result c.args.context.length
+          c.net-length.result.length c.args.context.signed
           c.slot-part.ensures e below (omega (arith, l, e, c.requires.longer)) c.requires.most (not-false c.args.context.signed c.if-not-context.false) x.1,
     )

@@ -32,6 +32,8 @@ returns c = λ fine.
     let s = sound-part nets c.args.name.now c.args.high c.args.low c.requires.sound in
     let bits : c.args.high - c.args.low + 1 ≡ c.args.high + 1 - c.args.low = (let le = s.0 in omega (arith, le)) in (
       p.0,
-      built-part c.requires.by_layer site.base site.scope.now site.slots.now c.args.name.now c.args.high c.args.low c.args.ops.now.code c.push.new.ops.code c.slot-part.result c.push.result c.args.context.length c.mask_of-mask.result c.args.context.signed
+      built-part c.requires.by_layer site.base site.scope.now site.slots.now c.args.name.now c.args.high c.args.low
+          c.args.ops.now.code c.push.new.ops.code c.slot-part.result c.push.result c.args.context.length
+          c.mask_of-mask.result c.args.context.signed
           c.slot-part.ensures (placed.below c.args.name.now here) (omega (arith, few, s.0, s.1)) (c.mask_of-mask.ensures ∙ ap (λ n. 2 ^ n - 1) bits) p.1,
     )

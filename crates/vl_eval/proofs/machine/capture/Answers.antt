@@ -8,7 +8,9 @@ use Rattle.vl_eval.proofs.machine.capture.Goals as goal
 use Rattle.vl_eval.proofs.machine.capture.Goals.{In-loop-capture}
 
 -- the places of the capture that a turn takes
-below : (c : In-loop-capture) → let here = slice_index_or c.args.captures.now c.loop-capture.capture-index (record { from = 0; to = 0 }) in (here.from < length c.loop-capture.values) × (here.to < length c.loop-capture.values)
+below : (c : In-loop-capture) → let here =
+    slice_index_or c.args.captures.now c.loop-capture.capture-index (record { from = 0; to = 0 }) in
+    (here.from < length c.loop-capture.values) × (here.to < length c.loop-capture.values)
 below c =
     let within = c.requires.within _ (capture-in c.args.captures.now c.loop-capture.capture-index c.loop-capture-test.true) in
     (omega (arith, within.0, c.loop-capture.auto.values), omega (arith, within.1, c.loop-capture.auto.values))
@@ -32,7 +34,9 @@ loop-capture-preserved c =
     let here : Capture = slice_index_or captures i (record { from = 0; to = 0 }) in
     let inside = capture-in captures i c.loop-capture-test.true in
     let within = (c.requires.within here inside).1 in
-    subst (λ cs. IsTaken cs c.args.values.now (set c.loop-capture.values here.to (slice_index c.loop-capture.values here.from))) (sym (take_more captures i (record { from = 0; to = 0 }) c.loop-capture-test.true))
+    subst (λ cs. IsTaken cs c.args.values.now
+    (set c.loop-capture.values here.to (slice_index c.loop-capture.values here.from)))
+    (sym (take_more captures i (record { from = 0; to = 0 }) c.loop-capture-test.true))
     (taken-more (take i captures) here c.args.values.now c.loop-capture.values (omega (arith, within, c.loop-capture.auto.values))
     (λ d h. c.requires.apart d here (subst (λ cs. Contains cs d) (take-append-drop i captures) (Contains-append_left (take i captures) (drop i captures) d h)) inside)
     c.loop-capture.invariant)

@@ -30,7 +30,9 @@ returns c =
     let built : Arranged = record { ops = c.fill.new.ops.code; slots = c.fill.new.slots; captures = c.fill.new.captured } in
     let slots = c.fill.new.slots.items in
     let done = (c.fill.ensures c.if-wanting.false).1 in
-    let reset = number-of by_layer m scope c.requires.scope a.driven a.once few slots done.wires done.wired (codes "reset") (reset-known by_layer m scope c.requires.scope a.driven a.once few slots done.wires done.wired c.requires.sound.clocked) in
+    let reset = number-of by_layer m scope c.requires.scope a.driven a.once few slots done.wires done.wired
+    (codes "reset") (reset-known by_layer m scope c.requires.scope a.driven a.once few slots done.wires
+    done.wired c.requires.sound.clocked) in
     let low = slice_get_within (names_in scope) reset.0 (codes "reset") (at-number scope.names.items reset.0 (codes "reset") reset.1) in
     let some : 0 < length (names_in scope) = omega (arith, low) in
     IfOk-weaker c.arrange.result _ _ (λ arranged sorted.

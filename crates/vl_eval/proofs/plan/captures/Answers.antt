@@ -17,9 +17,12 @@ use Rattle.vl_eval.proofs.plan.captures.Goals.{In-Always, in-Always, in_default}
 
 -- the item stands in the module, and is sound
 there : (c : In-Always) → Contains c.args.source.now.items (Always c.in-Always.name c.in-Always.first c.in-Always.condition c.in-Always.value)
-there c = item-there c.as_slice-item-items.result.now c.args.source.now.items c.loop-item.item-index c.item-item.result _ c.as_slice-item-items.ensures c.loop-item-test.true c.item-item.is c.in-Always.is
+there c = item-there c.as_slice-item-items.result.now c.args.source.now.items c.loop-item.item-index
+    c.item-item.result _ c.as_slice-item-items.ensures c.loop-item-test.true c.item-item.is c.in-Always.is
 
-sound : (c : In-Always) → (is_number c.in-Always.first ≡ true) × (is_sound_condition (nets_in c.args.site.now.scope.now) c.in-Always.condition ≡ true) × (is_sound (nets_in c.args.site.now.scope.now) c.in-Always.value ≡ true)
+sound : (c : In-Always) → (is_number c.in-Always.first ≡ true)
+    × (is_sound_condition (nets_in c.args.site.now.scope.now) c.in-Always.condition ≡ true)
+    × (is_sound (nets_in c.args.site.now.scope.now) c.in-Always.value ≡ true)
 sound c =
     let a = c.in-Always in
     scope-always c.args.source.now c.requires.sound.narrow c.args.site.now.scope.now c.requires.scope a.name a.first a.condition a.value (there c)
@@ -51,9 +54,12 @@ build_next-from-requires-clause-placed c =
     let wired = c.requires.wired inv.0 in
     subst (λ n. ArePlaced n scope site.slots.now c.loop-item.ops.code (next_names c.bytes.result.now a.condition a.value)) (sym c.requires.base)
     (subst (λ n. ArePlaced (length (names_in scope)) scope site.slots.now c.loop-item.ops.code (next_names n a.condition a.value)) (sym c.bytes.ensures)
-    (known-placed c.meaning_by_layer.ensures.value m scope c.requires.scope w.driven w.once few site.slots.now c.args.ops.now.code wired c.loop-item.ops.code inv.1.grows (next_names a.name a.condition a.value)
+    (known-placed c.meaning_by_layer.ensures.value m scope c.requires.scope w.driven w.once few site.slots.now
+    c.args.ops.now.code wired c.loop-item.ops.code inv.1.grows (next_names a.name a.condition a.value)
     (next-known c.meaning_by_layer.ensures.value m scope c.requires.scope w.driven w.once few site.slots.now c.args.ops.now.code wired
-    (reset-known c.meaning_by_layer.ensures.value m scope c.requires.scope w.driven w.once few site.slots.now c.args.ops.now.code wired c.requires.sound.clocked) a.name a.first a.condition a.value (there (goal.at.build_next-from-requires-clause-placed c).In-Always))))
+    (reset-known c.meaning_by_layer.ensures.value m scope c.requires.scope w.driven w.once few site.slots.now
+    c.args.ops.now.code wired c.requires.sound.clocked) a.name a.first a.condition a.value
+    (there (goal.at.build_next-from-requires-clause-placed c).In-Always))))
 
 pub loop-item-preserved : goal.loop-item-preserved
 loop-item-preserved c =
@@ -76,15 +82,21 @@ loop-item-preserved c =
           let wired = c.requires.wired inv.0 in
           let reset = reset-known c.meaning_by_layer.ensures.value m scope c.requires.scope q.driven q.once few slots before wired c.requires.sound.clocked in
           let ops : c.match-item.ops.code ≡ w.build_next-from.new.ops.code = ap (λ (o : Additions). o.code) w.ops-is ∙ w.put_capture.ensures.code in
-          let captures : c.match-item.captures.items ≡ c.loop-item.captures.items ++ record { from = w.build_next-from.result; to = w.slot-to.result } ∷ [] = ap (λ (v : Vec Capture Global). v.items) w.captures-is ∙ put.1 in
+          let captures : c.match-item.captures.items
+          ≡ c.loop-item.captures.items ++ record { from = w.build_next-from.result; to = w.slot-to.result }
+          ∷ [] = ap (λ (v : Vec Capture Global). v.items) w.captures-is ∙ put.1 in
           let takes =
           subst (λ n. Captures n scope slots c.loop-item.ops.code w.build_next-from.new.ops.code w.build_next-from.result a.name a.first a.condition a.value) c.requires.base
           (subst (λ n. Captures site.base scope slots c.loop-item.ops.code w.build_next-from.new.ops.code w.build_next-from.result n a.first a.condition a.value) w.bytes.ensures from.1) in (
             inv.0,
-            subst (λ is. AreCaptured m scope slots is before c.match-item.ops.code c.match-item.captures.items) (sym (items-more items m.items i c.item-item.result _ c.as_slice-item-items.ensures c.loop-item-test.true c.item-item.is a.is))
+            subst (λ is. AreCaptured m scope slots is before c.match-item.ops.code c.match-item.captures.items)
+                (sym (items-more items m.items i c.item-item.result _ c.as_slice-item-items.ensures
+                c.loop-item-test.true c.item-item.is a.is))
                 (subst (λ os. AreCaptured m scope slots (take i m.items ++ Always a.name a.first a.condition a.value ∷ []) before os c.match-item.captures.items) (sym ops)
                 (subst (λ cs. AreCaptured m scope slots (take i m.items ++ Always a.name a.first a.condition a.value ∷ []) before w.build_next-from.new.ops.code cs) (sym captures)
-                (captured-more c.meaning_by_layer.ensures.value m scope c.requires.scope q.driven q.once few slots before wired reset (take i m.items) c.loop-item.ops.code w.build_next-from.new.ops.code c.loop-item.captures.items
+                (captured-more c.meaning_by_layer.ensures.value m scope c.requires.scope q.driven q.once few slots
+                before wired reset (take i m.items) c.loop-item.ops.code w.build_next-from.new.ops.code
+                c.loop-item.captures.items
                 w.build_next-from.result w.slot-to.result a.name a.first a.condition a.value there (w.slot-to.ensures ∙ ap (slot_in scope slots) w.bytes-in-Always.ensures) takes inv.1))),
           ))
       | in_default w ↦ (λ fine.
@@ -92,10 +104,14 @@ loop-item-preserved c =
           let wired = c.requires.wired inv.0 in
           let reset = reset-known c.meaning_by_layer.ensures.value m scope c.requires.scope q.driven q.once few slots before wired c.requires.sound.clocked in (
             inv.0,
-            subst (λ is. AreCaptured m scope slots is before c.match-item.ops.code c.match-item.captures.items) (sym (items-more items m.items i c.item-item.result c.item-item.result c.as_slice-item-items.ensures c.loop-item-test.true c.item-item.is refl))
+            subst (λ is. AreCaptured m scope slots is before c.match-item.ops.code c.match-item.captures.items)
+                (sym (items-more items m.items i c.item-item.result c.item-item.result c.as_slice-item-items.ensures
+                c.loop-item-test.true c.item-item.is refl))
                 (subst (λ (os : List Op). AreCaptured m scope slots (take i m.items ++ c.item-item.result ∷ []) before os c.match-item.captures.items) (sym (ap (λ (o : Additions). o.code) w.ops-is))
                 (subst (λ (cs : Vec Capture Global). AreCaptured m scope slots (take i m.items ++ c.item-item.result ∷ []) before c.loop-item.ops.code cs.items) (sym w.captures-is)
-                (captured-same c.meaning_by_layer.ensures.value m scope c.requires.scope q.driven q.once few slots before wired reset (take i m.items) c.item-item.result c.loop-item.ops.code c.loop-item.captures.items
+                (captured-same c.meaning_by_layer.ensures.value m scope c.requires.scope q.driven q.once few slots
+                before wired reset
+                (take i m.items) c.item-item.result c.loop-item.ops.code c.loop-item.captures.items
                 (λ name first condition value e. w.in_default.not-Always name first condition value e) inv.1))),
           ))
     ]

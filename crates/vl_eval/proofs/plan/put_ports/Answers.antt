@@ -28,18 +28,29 @@ loop-port-preserved c =
     let more = items-more c.as_slice-port-items.result.now all i port port c.as_slice-port-items.ensures c.loop-port-test.true c.port-item.is refl in (
       elim c.if-is_driven_input.branch [
         | then-is_driven_input+in_ok-push w ↦
-            one-gathered (slot_of_port scope site.slots.now) is_driven all i port _ _ _ more c.loop-port.invariant.0 (ap (λ (places : Vec ℕ Global). places.items) w.inputs-is ∙ w.in_ok-push.ensures.items)
+            one-gathered (slot_of_port scope site.slots.now) is_driven all i port _ _ _ more c.loop-port.invariant.0
+            (ap (λ (places : Vec ℕ Global). places.items) w.inputs-is ∙ w.in_ok-push.ensures.items)
             (w.slot.ensures ∙ ap (slot_in scope site.slots.now) w.bytes.ensures) (sym c.is_driven_input.ensures ∙ w.if-is_driven_input.true)
         | else-is_driven_input w ↦
-            none-gathered (slot_of_port scope site.slots.now) is_driven all i port _ _ more c.loop-port.invariant.0 (ap (λ (places : Vec ℕ Global). places.items) w.inputs-is) (sym c.is_driven_input.ensures ∙ w.if-is_driven_input.false)
+            none-gathered (slot_of_port scope site.slots.now) is_driven all i port _ _ more c.loop-port.invariant.0
+            (ap (λ (places : Vec ℕ Global). places.items) w.inputs-is)
+            (sym c.is_driven_input.ensures ∙ w.if-is_driven_input.false)
       ],
       elim c.if-is_number_output.branch [
         | then-is_number_output+in_ok-push-2 w ↦
             one-gathered f test all i port _ _ _ more c.loop-port.invariant.1 (ap (λ (outputs : Vec Output Global). outputs.items) w.outputs-is ∙ w.in_ok-push-2.ensures.items)
-            (λ j. record { slot = (w.slot-then-is_number_output.ensures ∙ ap (slot_in scope site.slots.now) w.bytes-then-is_number_output.ensures) j; width = port.width; signed = port.signed || port.width == 128 })
+            (λ j. record {
+              slot = (w.slot-then-is_number_output.ensures
+                  ∙ ap (slot_in scope site.slots.now) w.bytes-then-is_number_output.ensures) j;
+              width =
+                  port.width;
+              signed = port.signed || port.width == 128;
+            })
             (sym c.is_number_output.ensures ∙ w.if-is_number_output.true)
         | else-is_number_output w ↦
-            none-gathered f test all i port _ _ more c.loop-port.invariant.1 (ap (λ (outputs : Vec Output Global). outputs.items) w.outputs-is) (sym c.is_number_output.ensures ∙ w.if-is_number_output.false)
+            none-gathered f test all i port _ _ more c.loop-port.invariant.1
+            (ap (λ (outputs : Vec Output Global). outputs.items) w.outputs-is)
+            (sym c.is_number_output.ensures ∙ w.if-is_number_output.false)
       ],
     )
 

@@ -12,10 +12,14 @@ use Rattle.vl_eval.proofs.plan.wires.Goals as goal
 use Rattle.vl_eval.proofs.plan.wires.Goals.{In-Some}
 
 -- what the number that the loop looks at assigns
-found : (c : In-Some) → Assigned c.meaning_by_layer.ensures.value c.args.source.now c.args.scope.now c.args.order.now c.args.places.now c.requires.scope c.requires.sound.acyclic.driven c.requires.sound.acyclic.once c.requires.order
+found : (c : In-Some) → Assigned c.meaning_by_layer.ensures.value c.args.source.now c.args.scope.now
+    c.args.order.now c.args.places.now c.requires.scope c.requires.sound.acyclic.driven
+    c.requires.sound.acyclic.once c.requires.order
     (slice_index c.args.order.now c.loop-number.number-index) c.in-Some.field-0.name.now c.in-Some.field-0.value.now
 found c =
-    some-assignment c.meaning_by_layer.ensures.value c.args.source.now c.args.scope.now c.args.order.now c.args.places.now c.requires.scope c.requires.sound.acyclic.driven c.requires.sound.acyclic.once c.requires.order
+    some-assignment c.meaning_by_layer.ensures.value c.args.source.now c.args.scope.now c.args.order.now
+    c.args.places.now c.requires.scope c.requires.sound.acyclic.driven c.requires.sound.acyclic.once
+    c.requires.order
     (slice_index c.args.order.now c.loop-number.number-index) c.in-Some.field-0.name.now c.in-Some.field-0.value.now (sym c.in-Some.ensures)
 
 pub loop-number-init : goal.loop-number-init
@@ -23,7 +27,12 @@ loop-number-init c =
     let a = c.requires.sound.acyclic in
     record {
       long = c.requires.numbers.long;
-      wired = λ fine. (fine, wired-none c.meaning_by_layer.ensures.value c.args.source.now c.args.scope.now c.args.order.now c.args.places.now c.requires.scope a.driven a.once c.requires.order c.args.slots.now.items c.args.ops.now.code c.requires.numbers c.requires.none);
+      wired = λ fine. (
+        fine,
+        wired-none c.meaning_by_layer.ensures.value c.args.source.now c.args.scope.now
+            c.args.order.now c.args.places.now c.requires.scope a.driven a.once c.requires.order
+            c.args.slots.now.items c.args.ops.now.code c.requires.numbers c.requires.none,
+      );
     }
 
 pub loop-number-preserved-in_default : goal.loop-number-preserved-in_default
@@ -37,8 +46,12 @@ loop-number-preserved-in_default c =
     record {
       long = c.loop-number.invariant.long;
       wired = λ fine.
-          let w = c.loop-number.invariant.wired fine in
-          (w.0, wired-same c.meaning_by_layer.ensures.value m c.args.scope.now order places c.requires.scope a.driven a.once c.requires.order p c.loop-number.slots.items c.loop-number.ops.code c.loop-number-test.true none w.1);
+          let w = c.loop-number.invariant.wired fine in (
+            w.0,
+            wired-same c.meaning_by_layer.ensures.value m c.args.scope.now order places c.requires.scope
+                a.driven a.once c.requires.order p c.loop-number.slots.items c.loop-number.ops.code
+                c.loop-number-test.true none w.1,
+          );
     }
 
 pub build_assigned-slot-requires-clause-sound : goal.build_assigned-slot-requires-clause-sound
@@ -69,7 +82,9 @@ build_assigned-slot-requires-clause-placed c =
     λ fine.
     subst (λ n. ArePlaced n scope c.as_slice.result.now c.loop-number.ops.code (names_read here.value.now)) (sym c.count.ensures)
     (subst (λ xs. ArePlaced (length (names_in scope)) scope xs c.loop-number.ops.code (names_read here.value.now)) (sym c.as_slice.ensures.value)
-    (wired-placed c.meaning_by_layer.ensures.value c.args.source.now scope c.args.order.now c.args.places.now c.requires.scope a.driven a.once c.requires.order c.loop-number.number-index assigned.j here.name.now here.value.now c.loop-number-test.true assigned.place assigned.item
+    (wired-placed c.meaning_by_layer.ensures.value c.args.source.now scope c.args.order.now c.args.places.now
+    c.requires.scope a.driven a.once c.requires.order c.loop-number.number-index assigned.j here.name.now
+    here.value.now c.loop-number-test.true assigned.place assigned.item
     c.loop-number.slots.items 0 c.loop-number.ops.code (scope-few c.args.source.now c.requires.sound.narrow a.driven a.once scope c.requires.scope) (c.loop-number.invariant.wired fine).1))
 
 pub loop-number-preserved : goal.loop-number-preserved
@@ -88,11 +103,19 @@ loop-number-preserved c =
           let more = c.build_assigned-slot.ensures fine in
           let w = c.loop-number.invariant.wired more.0 in
           let assigns =
-          subst (λ xs. Assigns (length (names_in scope)) scope xs c.loop-number.ops.code c.build_assigned-slot.new.ops.code c.build_assigned-slot.result c.net-width.result.length here.value.now) c.as_slice.ensures.value
-          (subst (λ n. Assigns n scope c.as_slice.result.now c.loop-number.ops.code c.build_assigned-slot.new.ops.code c.build_assigned-slot.result c.net-width.result.length here.value.now) c.count.ensures more.1) in (
+          subst (λ xs. Assigns (length (names_in scope)) scope xs c.loop-number.ops.code
+          c.build_assigned-slot.new.ops.code c.build_assigned-slot.result c.net-width.result.length
+          here.value.now) c.as_slice.ensures.value
+          (subst (λ n. Assigns n scope c.as_slice.result.now c.loop-number.ops.code
+          c.build_assigned-slot.new.ops.code c.build_assigned-slot.result c.net-width.result.length
+          here.value.now) c.count.ensures more.1) in (
             w.0,
-            wired-more c.meaning_by_layer.ensures.value m scope order places c.requires.scope a.driven a.once c.requires.order p assigned.j here.name.now here.value.now c.loop-number-test.true assigned.place assigned.item
-                c.loop-number.slots.items c.build_assigned-slot.result c.loop-number.ops.code c.build_assigned-slot.new.ops.code c.net-width.result.length (ap (λ (n : Net). n.width) c.net-width.ensures) assigns w.1,
+            wired-more c.meaning_by_layer.ensures.value m scope order places c.requires.scope a.driven a.once
+                c.requires.order p assigned.j here.name.now here.value.now c.loop-number-test.true assigned.place
+                assigned.item
+                c.loop-number.slots.items c.build_assigned-slot.result c.loop-number.ops.code
+                c.build_assigned-slot.new.ops.code c.net-width.result.length
+                (ap (λ (n : Net). n.width) c.net-width.ensures) assigns w.1,
           );
     }
 

@@ -14,7 +14,9 @@ abbrev reads : List Op → List ℕ → Step → Type 0
 reads wide values step = reads_below (op_in wide step) (length values)
 
 pub returns-in-Beside : goal.returns-in-Beside
-returns-in-Beside c = (λ i. ((c.words-left-in-Beside.ensures.left i) * 2 ^ c.in-Beside.places % 2 ^ 128 + c.words-left-in-Beside.ensures.right i) % 2 ^ 128) ∙ ap (gives c.args.wide.now c.args.values.now) (sym c.in-Beside.is)
+returns-in-Beside c = (λ i. ((c.words-left-in-Beside.ensures.left i) * 2 ^ c.in-Beside.places % 2 ^ 128
+    + c.words-left-in-Beside.ensures.right i) % 2 ^ 128)
+    ∙ ap (gives c.args.wide.now c.args.values.now) (sym c.in-Beside.is)
 
 pub signed_down-requires : goal.signed_down-requires
 signed_down-requires c = (subst (reads c.args.wide.now c.args.values.now) c.in-SignedDown.is c.requires.reads).1
@@ -38,7 +40,11 @@ pub chosen_word-requires-else-values-register-eq1 : goal.chosen_word-requires-el
 chosen_word-requires-else-values-register-eq1 c = let below = subst (reads c.args.wide.now c.args.values.now) c.in-Next.is c.requires.reads in (below.1, below.2, below.3)
 
 pub returns-then-values-register-eq1 : goal.returns-then-values-register-eq1
-returns-then-values-register-eq1 c = sym (ap (λ (n : ℕ). if n == 1 then c.in-Next.register.first else (if slice_index c.args.values.now c.in-Next.register.test == 0 then slice_index c.args.values.now c.in-Next.register.kept else slice_index c.args.values.now c.in-Next.register.value)) c.if-values-register-eq1.true) ∙ ap (gives c.args.wide.now c.args.values.now) (sym c.in-Next.is)
+returns-then-values-register-eq1 c = sym
+    (ap (λ (n : ℕ). if n == 1 then c.in-Next.register.first else
+    (if slice_index c.args.values.now c.in-Next.register.test == 0 then slice_index c.args.values.now
+    c.in-Next.register.kept else slice_index c.args.values.now c.in-Next.register.value))
+    c.if-values-register-eq1.true) ∙ ap (gives c.args.wide.now c.args.values.now) (sym c.in-Next.is)
 
 pub bounds-wide-number : goal.bounds-wide-number
 bounds-wide-number c = subst (IsWithin (length c.args.wide.now)) c.in-Whole.is c.requires.within
@@ -47,13 +53,21 @@ pub value_of-requires : goal.value_of-requires
 value_of-requires c = subst (reads c.args.wide.now c.args.values.now) c.in-Whole.is c.requires.reads
 
 pub returns-in-Add : goal.returns-in-Add
-returns-in-Add c = c.sum.ensures ∙ (λ i. bit_and (((c.words-left.ensures.left i) + (c.words-left.ensures.right i)) % 2 ^ 128) c.in-Add.mask) ∙ ap (gives c.args.wide.now c.args.values.now) (sym c.in-Add.is)
+returns-in-Add c = c.sum.ensures ∙ (λ i. bit_and
+    (((c.words-left.ensures.left i) + (c.words-left.ensures.right i)) % 2 ^ 128) c.in-Add.mask)
+    ∙ ap (gives c.args.wide.now c.args.values.now) (sym c.in-Add.is)
 
 pub returns-in-Subtract : goal.returns-in-Subtract
-returns-in-Subtract c = c.difference.ensures ∙ (λ i. bit_and (((c.words-left-in-Subtract.ensures.left i) + (2 ^ 128 - (c.words-left-in-Subtract.ensures.right i))) % 2 ^ 128) c.in-Subtract.mask) ∙ ap (gives c.args.wide.now c.args.values.now) (sym c.in-Subtract.is)
+returns-in-Subtract c = c.difference.ensures
+    ∙ (λ i. bit_and (((c.words-left-in-Subtract.ensures.left i)
+    + (2 ^ 128 - (c.words-left-in-Subtract.ensures.right i))) % 2 ^ 128) c.in-Subtract.mask)
+    ∙ ap (gives c.args.wide.now c.args.values.now) (sym c.in-Subtract.is)
 
 pub returns-in-Multiply : goal.returns-in-Multiply
-returns-in-Multiply c = c.product.ensures ∙ (λ i. bit_and ((c.words-left-in-Multiply.ensures.left i) * (c.words-left-in-Multiply.ensures.right i) % 2 ^ 128) c.in-Multiply.mask) ∙ ap (gives c.args.wide.now c.args.values.now) (sym c.in-Multiply.is)
+returns-in-Multiply c = c.product.ensures
+    ∙ (λ i. bit_and ((c.words-left-in-Multiply.ensures.left i)
+    * (c.words-left-in-Multiply.ensures.right i) % 2 ^ 128) c.in-Multiply.mask)
+    ∙ ap (gives c.args.wide.now c.args.values.now) (sym c.in-Multiply.is)
 
 pub returns-in-And : goal.returns-in-And
 returns-in-And c = (λ i. bit_and (c.words-left-in-And.ensures.left i) (c.words-left-in-And.ensures.right i)) ∙ ap (gives c.args.wide.now c.args.values.now) (sym c.in-And.is)

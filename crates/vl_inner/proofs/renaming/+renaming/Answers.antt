@@ -5,7 +5,8 @@ use Rattle.vl_ast.specs.declared.expressions.Expr.TheViews.{out-Expr}
 use Rattle.vl_ast.proofs.Listings.{holds-as, one-held}
 use Rattle.vl_inner.specs.Names.{name_by}
 use Rattle.vl_inner.specs.Renamed.{renamed, with_name, with_part}
-use Rattle.vl_inner.proofs.Forms.{of-name, of-bit, of-part, of-literal, of-concat, of-repeat, of-signed, of-unsigned, of-unary, of-binary, of-shift, of-choose, over-bit, over-name, over-part, over-repeat, over-shift, over-signed, over-unary, over-unsigned}
+use Rattle.vl_inner.proofs.Forms.{of-name, of-bit, of-part, of-literal, of-concat, of-repeat, of-signed, of-unsigned, of-unary, of-binary, of-shift, of-choose, over-bit, over-name, over-part}
+use Rattle.vl_inner.proofs.Forms.{over-repeat, over-shift, over-signed, over-unary, over-unsigned}
 use Rattle.vl_inner.proofs.renaming.+renaming.Goals as goal
 
 pub renamed_expr-returns-in-Name : goal.renamed_expr-returns-in-Name
@@ -73,7 +74,8 @@ renamed_parts-loop-part-init t c = c.begin-out.ensures
 
 pub renamed_parts-loop-part-preserved : goal.renamed_parts-loop-part-preserved
 renamed_parts-loop-part-preserved t c =
-    one-held c.args.parts.now c.loop-part.part-index c.part-item.result c.loop-part-test.true c.part-item.is (renamed (name_by c.args.naming)) c.loop-part.invariant (c.put_expression.ensures _ c.renamed_expr.ensures)
+    one-held c.args.parts.now c.loop-part.part-index c.part-item.result c.loop-part-test.true c.part-item.is
+    (renamed (name_by c.args.naming)) c.loop-part.invariant (c.put_expression.ensures _ c.renamed_expr.ensures)
 
 pub renamed_parts-returns : goal.renamed_parts-returns
 renamed_parts-returns t c =

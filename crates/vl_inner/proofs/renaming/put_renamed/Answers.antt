@@ -24,4 +24,5 @@ returns-in-Assign c =
 pub returns-in-Always : goal.returns-in-Always
 returns-in-Always c =
     let name = subst (λ (text : List ℕ). IfOk c.name_by-name.result (λ made. made ≡ name_by c.args.naming text)) (c.name.ensures ∙ ap item_name c.in-Always.is) c.name_by-name.ensures in
-    lists-as (ap (λ (item : ModItem). renamed_item (name_by c.args.naming) item ∷ []) (sym c.in-Always.is)) (c.put_clocked.ensures _ _ _ _ refl name c.renamed_condition.ensures c.renamed_expr-in-Always.ensures)
+    lists-as (ap (λ (item : ModItem). renamed_item (name_by c.args.naming) item ∷ []) (sym c.in-Always.is))
+    (c.put_clocked.ensures _ _ _ _ refl name c.renamed_condition.ensures c.renamed_expr-in-Always.ensures)

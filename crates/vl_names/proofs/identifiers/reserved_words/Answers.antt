@@ -31,7 +31,9 @@ any-texts test (word ∷ words) = ap (λ (found : Bool). test word.now || found)
 abbrev by_letter : List (List (List ℕ))
 by_letter = map (λ letter. filter (begins_with letter) reserved) (range_with_len 97 26)
 
-at_letter : (table : List (Bor (List (Bor (List ℕ))))) (past : Bor (List (Bor (List ℕ)))) (first : ℕ) → 97 ≤ first → first < 123 → map texts table ≡ by_letter → texts (get_or table (first - 97) past) ≡ filter (begins_with first) reserved
+at_letter : (table : List (Bor (List (Bor (List ℕ))))) (past : Bor (List (Bor (List ℕ)))) (first : ℕ) → 97 ≤ first
+    → first < 123 → map texts table ≡ by_letter
+    → texts (get_or table (first - 97) past) ≡ filter (begins_with first) reserved
 at_letter table past first low high is =
     sym (get_or-map texts table (first - 97) past)
     ∙ ap (λ (all : List (List (List ℕ))). get_or all (first - 97) (texts past)) is

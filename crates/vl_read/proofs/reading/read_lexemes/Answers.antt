@@ -31,20 +31,26 @@ loop-at-preserved-then-not-is_within c =
 
 pub returns-then-not-branch-clause-refused : goal.returns-then-not-branch-clause-refused
 returns-then-not-branch-clause-refused c =
-    let unfed : None ≡ step (seen c.loop-at.reader) (between c.loop-at.at c.lexeme_end-end.result c.args.bytes.now) = ap (λ t. stepped t (seen c.step.new.self)) (sym c.if-not-branch.true) ∙ c.in_ok-step.ensures in
+    let unfed : None ≡ step (seen c.loop-at.reader)
+    (between c.loop-at.at c.lexeme_end-end.result c.args.bytes.now) =
+    ap (λ t. stepped t (seen c.step.new.self)) (sym c.if-not-branch.true) ∙ c.in_ok-step.ensures in
     lexeme_refused _ _ _ _ c.loop-at.invariant.reached c.loop-at.invariant.beyond c.loop-at-test.true _ c.in-Some.ensures (c.is_within.ensures.within c.if-not-is_within.false)
     _ c.lexeme_end-end.ensures.more c.lexeme_end-end.ensures.within c.lexeme_end-end.ensures.each c.lexeme_end-end.ensures.stops unfed
 
 pub returns-then-not-branch-clause-line : goal.returns-then-not-branch-clause-line
 returns-then-not-branch-clause-line c =
-    let unfed : None ≡ step (seen c.loop-at.reader) (between c.loop-at.at c.lexeme_end-end.result c.args.bytes.now) = ap (λ t. stepped t (seen c.step.new.self)) (sym c.if-not-branch.true) ∙ c.in_ok-step.ensures in
+    let unfed : None ≡ step (seen c.loop-at.reader)
+    (between c.loop-at.at c.lexeme_end-end.result c.args.bytes.now) =
+    ap (λ t. stepped t (seen c.step.new.self)) (sym c.if-not-branch.true) ∙ c.in_ok-step.ensures in
     rw c.line_at-then-not-branch.ensures
     (lexeme_line _ _ _ _ c.loop-at.invariant.reached c.loop-at.invariant.beyond c.loop-at-test.true _ c.in-Some.ensures (c.is_within.ensures.within c.if-not-is_within.false)
     _ c.lexeme_end-end.ensures.more c.lexeme_end-end.ensures.within c.lexeme_end-end.ensures.each c.lexeme_end-end.ensures.stops unfed)
 
 pub loop-at-preserved : goal.loop-at-preserved
 loop-at-preserved c =
-    let fed : Some (seen c.step.new.self) ≡ step (seen c.loop-at.reader) (between c.loop-at.at c.lexeme_end-end.result c.args.bytes.now) = ap (λ t. stepped t (seen c.step.new.self)) (sym c.if-not-branch.false) ∙ c.in_ok-step.ensures in
+    let fed : Some (seen c.step.new.self)
+    ≡ step (seen c.loop-at.reader) (between c.loop-at.at c.lexeme_end-end.result c.args.bytes.now) =
+    ap (λ t. stepped t (seen c.step.new.self)) (sym c.if-not-branch.false) ∙ c.in_ok-step.ensures in
     record {
       within = c.lexeme_end-end.ensures.within;
       beyond = tt;

@@ -32,7 +32,10 @@ returns-then-sample-count c =
     let hit = c.hit_at-sample.result in
     let column = c.in-Column in
     let below : hit < table.lines = omega (arith, c.count.ensures, c.if-sample-count.true) in
-    c.bits_of.ensures ∙ ap (bits_of column.width) (to_z-of_z w128 c.get.result (record { sfits = c.get.type_inv }) ∙ sym (get_or_from_slice_get table.cells (hit * table.columns + column.place) c.get.result (pos 0) c.get.ensures))
+    c.bits_of.ensures ∙ ap (bits_of column.width)
+    (to_z-of_z w128 c.get.result (record { sfits = c.get.type_inv })
+    ∙ sym (get_or_from_slice_get table.cells (hit * table.columns + column.place) c.get.result
+    (pos 0) c.get.ensures))
     ∙ ap (λ (t : Bool). if t then bits_of column.width (numbers_of table column.place hit) else 0) (sym (lt-ltb hit table.lines below))
     ∙ ap (λ t. if nat_lt t table.lines then bits_of column.width (numbers_of table column.place t) else 0) c.hit_at-sample.ensures
     ∙ ap (driver_bits (numbers_of table) table.lines c.args.sample) (sym column.is)

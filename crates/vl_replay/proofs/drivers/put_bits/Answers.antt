@@ -34,7 +34,8 @@ loop-k-init c = record {
 pub loop-k-preserved : goal.loop-k-preserved
 loop-k-preserved c =
     let stimulus = c.args.stimulus.now in
-    bits-more (driver_bits (numbers_of stimulus) stimulus.lines c.args.sample) c.args.drivers.now c.loop-k.k c.loop-k.bits c.driven_bits.result c.loop-k-test.true c.loop-k.invariant c.driven_bits.ensures
+    bits-more (driver_bits (numbers_of stimulus) stimulus.lines c.args.sample) c.args.drivers.now c.loop-k.k
+    c.loop-k.bits c.driven_bits.result c.loop-k-test.true c.loop-k.invariant c.driven_bits.ensures
 
 pub loop-k-smaller : goal.loop-k-smaller
 loop-k-smaller c = let here : c.loop-k.k < length c.args.drivers.now = c.loop-k-test.true in omega (arith, here)

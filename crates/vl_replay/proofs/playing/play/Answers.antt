@@ -24,7 +24,9 @@ pub loop-sample-init : goal.loop-sample-init
 loop-sample-init c =
     let start : 0 ≡ 0 * c.args.score.now.cycles = omega arith in
     let are = subst (λ (xs : List Driver). AreBits reset_bits xs (length xs) c.put_reset.new.bits) c.as_slice.ensures.value c.put_reset.ensures in
-    let played = begun c.args.score.now c.args.score.now.window c.args.machine.now c.edge.new.self c.put_reset.new.bits c.args.cells.now c.requires.some c.requires.is c.edge.ensures.source c.edge.ensures.ready c.requires.row are c.edge.ensures.row c.requires.room in
+    let played = begun c.args.score.now c.args.score.now.window c.args.machine.now c.edge.new.self
+    c.put_reset.new.bits c.args.cells.now c.requires.some c.requires.is c.edge.ensures.source
+    c.edge.ensures.ready c.requires.row are c.edge.ensures.row c.requires.room in
     record {
       played = subst (λ clocks. IsPlayed c.args.score.now c.args.score.now.window clocks c.edge.new.self c.args.cells.now) start played;
       wide = c.put_reset.auto.bits ∙ c.requires.wide;

@@ -9,7 +9,8 @@ use Rattle.vl_replay.proofs.playing.play_sample.Goals as goal
 
 pub put_bits-requires-clause-within : goal.put_bits-requires-clause-within
 put_bits-requires-clause-within c =
-    subst (λ (xs : List Driver). AreWithin c.args.score.now.stimulus.columns xs) (sym c.as_slice.ensures.value) (within-columns (source_of c.args.machine.now) c.args.score.now c.requires.played.score_is)
+    subst (λ (xs : List Driver). AreWithin c.args.score.now.stimulus.columns xs) (sym c.as_slice.ensures.value)
+    (within-columns (source_of c.args.machine.now) c.args.score.now c.requires.played.score_is)
 
 pub loop-phase-init : goal.loop-phase-init
 loop-phase-init c =
@@ -36,7 +37,9 @@ step-requires c =
     record {
       played = c.loop-phase.invariant.played;
       phase = c.loop-phase-test.true;
-      bits = subst (λ (xs : List Driver). AreBits (driver_bits (numbers_of score.stimulus) score.stimulus.lines c.args.sample) xs (length xs) c.put_bits.new.bits) c.as_slice.ensures.value c.put_bits.ensures;
+      bits = subst (λ (xs : List Driver). AreBits
+          (driver_bits (numbers_of score.stimulus) score.stimulus.lines c.args.sample) xs
+          (length xs) c.put_bits.new.bits) c.as_slice.ensures.value c.put_bits.ensures;
     }
 
 pub returns : goal.returns

@@ -15,7 +15,10 @@ use Rattle.vl_replay.proofs.playing.step.Goals as goal
 pub edge-requires-clause-fit : goal.edge-requires-clause-fit
 edge-requires-clause-fit c =
     let score = c.args.score.now in
-    fit-score (source_of c.args.machine.now) score c.requires.played.score_is (driver_bits (numbers_of score.stimulus) score.stimulus.lines c.args.sample) (driver-fits (numbers_of score.stimulus) score.stimulus.lines c.args.sample (is_stallable (source_of c.args.machine.now))) c.args.bits.now c.requires.bits
+    fit-score (source_of c.args.machine.now) score c.requires.played.score_is
+    (driver_bits (numbers_of score.stimulus) score.stimulus.lines c.args.sample)
+    (driver-fits (numbers_of score.stimulus) score.stimulus.lines c.args.sample
+    (is_stallable (source_of c.args.machine.now))) c.args.bits.now c.requires.bits
 
 pub put_numbers-requires : goal.put_numbers-requires
 put_numbers-requires c =
@@ -33,8 +36,13 @@ put_numbers-requires c =
 
 pub returns-clause-played : goal.returns-clause-played
 returns-clause-played c =
-    let put = subst (λ (xs : List Sampler). ArePut (number_at (source_of c.edge.new.self) (row_of c.edge.new.self)) xs c.count.result c.args.score.now.window c.args.sample c.args.phase (length xs) c.args.cells.now c.put_numbers.new.cells) c.as_slice.ensures.value c.put_numbers.ensures in
-    played-more c.args.score.now c.args.score.now.window c.args.sample c.args.phase c.args.machine.now c.edge.new.self c.args.bits.now c.args.cells.now c.put_numbers.new.cells c.requires.played c.requires.phase c.requires.bits
+    let put = subst (λ (xs : List Sampler). ArePut
+    (number_at (source_of c.edge.new.self) (row_of c.edge.new.self)) xs c.count.result c.args.score.now.window
+    c.args.sample c.args.phase (length xs) c.args.cells.now c.put_numbers.new.cells)
+    c.as_slice.ensures.value c.put_numbers.ensures in
+    played-more c.args.score.now c.args.score.now.window c.args.sample c.args.phase c.args.machine.now
+    c.edge.new.self c.args.bits.now c.args.cells.now c.put_numbers.new.cells c.requires.played c.requires.phase
+    c.requires.bits
     c.edge.ensures.source c.edge.ensures.ready c.edge.ensures.row (rw c.count.ensures at put)
 
 pub edge-requires-clause-ready : goal.edge-requires-clause-ready

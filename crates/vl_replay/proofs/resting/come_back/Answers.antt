@@ -23,7 +23,8 @@ returns-then-is_at-clause-leads c =
     let inputs = given (driven_ports m) c.args.bits.now in
     let first = row_of c.args.machine.now in
     let loop = c.loop-clock in
-    let is = since-edge m c.args.bits.now first loop.clock loop.since loop.machine loop.kept loop.invariant.is c.edge.new.self loop.invariant.source c.edge.ensures.row (c.edge.ensures.kept loop.kept) in
+    let is = since-edge m c.args.bits.now first loop.clock loop.since loop.machine loop.kept loop.invariant.is
+    c.edge.new.self loop.invariant.source c.edge.ensures.row (c.edge.ensures.kept loop.kept) in
     let back = c.is_at.ensures.at c.if-is_at.true is.row is.kept in
     let below = c.loop-clock-test.true in
     since-back m inputs first (loop.clock + 1) (loop.since + 1) c.edge.new.self loop.kept is c.args.clocks _ (omega (arith, below)) back

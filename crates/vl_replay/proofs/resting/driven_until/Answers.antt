@@ -25,7 +25,9 @@ loop-k-preserved c =
     record {
       past = λ place driver e below.
           ⊎_elim (λ less. past-later samples c.loop-k.from c.max-from.result driver (omega (arith, most)) (before.past place driver e less))
-          (λ from. subst (λ (d : Driver). IsPast samples c.max-from.result d) (one drivers k place own driver there e (omega (arith, below, from))) (past-later samples c.past.result c.max-from.result own (omega (arith, most)) now.past))
+          (λ from. subst (λ (d : Driver). IsPast samples c.max-from.result d)
+          (one drivers k place own driver there e (omega (arith, below, from)))
+          (past-later samples c.past.result c.max-from.result own (omega (arith, most)) now.past))
           (cases_lt place k);
       near = (let a = now.near in let b = before.near in omega (arith, most, a, b));
     }

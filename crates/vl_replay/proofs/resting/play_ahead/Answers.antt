@@ -36,9 +36,13 @@ pub returns-clause-played : goal.returns-clause-played
 returns-clause-played c =
     let score = c.args.score.now in
     let quiet = c.quiet_from-quiet.result in
-    let are = subst (λ (xs : List Driver). AreBits (driver_bits (numbers_of score.stimulus) score.stimulus.lines quiet) xs (length xs) c.put_bits.new.bits) c.as_slice.ensures.value c.put_bits.ensures in
+    let are = subst (λ (xs : List Driver). AreBits
+    (driver_bits (numbers_of score.stimulus) score.stimulus.lines quiet) xs (length xs) c.put_bits.new.bits)
+    c.as_slice.ensures.value c.put_bits.ensures in
     let more = c.if-span-quiet.false in
-    rested score c.args.score.now.window quiet c.args.span c.play-2.new.machine c.rest.new.machine c.put_bits.new.bits c.play-2.new.cells c.play-2.ensures.played c.quiet_from-quiet.ensures.quiet (omega (arith, more)) are
+    rested score c.args.score.now.window quiet c.args.span c.play-2.new.machine c.rest.new.machine
+    c.put_bits.new.bits c.play-2.new.cells c.play-2.ensures.played c.quiet_from-quiet.ensures.quiet
+    (omega (arith, more)) are
     c.rest.ensures.source c.rest.ensures.ready c.rest.ensures.leads
 
 pub returns-then-span-quiet-clause-played : goal.returns-then-span-quiet-clause-played

@@ -16,7 +16,9 @@ loop-clock-preserved c =
     record {
       ready = c.edge.ensures.ready;
       source = c.edge.ensures.source ∙ loop.invariant.source;
-      leads = subst (λ n. Leads m inputs (row_of c.args.machine.now) n (row_of c.edge.new.self)) more (leads-more m inputs (row_of c.args.machine.now) passed (row_of loop.machine) (row_of c.edge.new.self) loop.invariant.leads edge);
+      leads = subst (λ n. Leads m inputs (row_of c.args.machine.now) n (row_of c.edge.new.self)) more
+          (leads-more m inputs (row_of c.args.machine.now) passed (row_of loop.machine)
+          (row_of c.edge.new.self) loop.invariant.leads edge);
     }
 
 pub come_back-left-requires : goal.come_back-left-requires

@@ -40,4 +40,5 @@ returns c =
     let miss = unequal-test (hit_at period sample) sample (λ same. c.if-hit-sample.false (c.hit_at-hit.ensures ∙ same)) in
     to_z-of_z w128 (slice_index_or c.args.cells.now (c.start_of.result + place) (pos 0)) (search rules)
     ∙ ap (λ (start : ℕ). slice_index_or c.args.cells.now (start + place) (pos 0)) c.start_of.ensures.start
-    ∙ sym (cond-false (hit_at period sample == sample) (numbers_in c.args.machine.now place) (slice_index_or c.args.cells.now (cell_of c.args.window (length samplers) place (sample - 1)) (pos 0)) miss)
+    ∙ sym (cond-false (hit_at period sample == sample) (numbers_in c.args.machine.now place)
+    (slice_index_or c.args.cells.now (cell_of c.args.window (length samplers) place (sample - 1)) (pos 0)) miss)

@@ -21,7 +21,8 @@ not-due c never =
     (sampler_at c.args.samplers.now c.loop-place.place) (there c) c.loop-place.invariant never
 
 -- a ring that is as long has the same room
-ring-kept : {machine : Machine} {samplers : List Sampler} {window : ℕ} {cells cells' : List ℤ} → HasRing machine samplers window cells → length cells' ≡ length cells → HasRing machine samplers window cells'
+ring-kept : {machine : Machine} {samplers : List Sampler} {window : ℕ} {cells cells' : List ℤ}
+    → HasRing machine samplers window cells → length cells' ≡ length cells → HasRing machine samplers window cells'
 ring-kept ring long = record { ready = ring.ready; outputs = ring.outputs; periods = ring.periods; some = ring.some; room = long ∙ ring.room }
 
 pub loop-place-init : goal.loop-place-init
@@ -58,7 +59,9 @@ loop-place-preserved c =
     let late = c.if-sample-sampler.false in
     let due : sample - own.delay + own.delay ≡ sample = omega (arith, late) in
     subst (λ (cells : List ℤ). ArePut numbers samplers c.args.samples c.args.window sample c.args.phase (place + 1) c.args.cells.now cells) (sym c.put_number.ensures)
-    (put-due numbers samplers c.args.samples c.args.window sample c.args.phase place c.args.cells.now c.loop-place.cells own here c.loop-place.invariant (sample - own.delay) c.if-samples-due.false c.if-sampler-phase.false due
+    (put-due numbers samplers c.args.samples c.args.window sample c.args.phase place c.args.cells.now
+    c.loop-place.cells own here c.loop-place.invariant
+    (sample - own.delay) c.if-samples-due.false c.if-sampler-phase.false due
     c.requires.some (c.loop-place.invariant.long ∙ c.requires.room))
 
 pub returns : goal.returns
@@ -66,4 +69,5 @@ returns c =
     let past = c.loop-place-test.false in
     let within = c.loop-place.auto.place-end in
     let all : c.loop-place.place ≡ length c.args.samplers.now = omega (arith, past, within) in
-    subst (λ (n : ℕ). ArePut (numbers_in c.args.machine.now) c.args.samplers.now c.args.samples c.args.window c.args.sample c.args.phase n c.args.cells.now c.loop-place.cells) all c.loop-place.invariant
+    subst (λ (n : ℕ). ArePut (numbers_in c.args.machine.now) c.args.samplers.now c.args.samples c.args.window
+    c.args.sample c.args.phase n c.args.cells.now c.loop-place.cells) all c.loop-place.invariant

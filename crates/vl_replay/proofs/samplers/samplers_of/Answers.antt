@@ -21,7 +21,13 @@ loop-port-preserved c =
     elim c.if-is_number_output.branch [
       | then-is_number_output+in_ok-push w ↦ (
           ap (λ (samplers : Vec Sampler Global). samplers.items) w.samplers-is ∙ w.in_ok-push.ensures.items
-          ∙ (λ j. c.loop-port.invariant j ++ record { period = w.step_of.ensures.step j; delay = w.lateness_of-latency.ensures j / c.args.cycles; phase = w.lateness_of-latency.ensures j % c.args.cycles } ∷ [])
+          ∙ (λ j. c.loop-port.invariant j ++ record {
+            period = w.step_of.ensures.step j;
+            delay =
+                w.lateness_of-latency.ensures j / c.args.cycles;
+            phase =
+                w.lateness_of-latency.ensures j % c.args.cycles;
+          } ∷ [])
           ∙ kept-one sampler test (take i ports) port (sym c.is_number_output.ensures ∙ w.if-is_number_output.true) ∙ ap (λ xs. map sampler (filter test xs)) (sym more))
       | else-is_number_output w ↦ (
           ap (λ (samplers : Vec Sampler Global). samplers.items) w.samplers-is ∙ c.loop-port.invariant

@@ -16,7 +16,9 @@ put_expr-returns-in-Bit t c =
 
 pub put_expr-returns-in-Part : goal.put_expr-returns-in-Part
 put_expr-returns-in-Part t c =
-    wrote-part c.bytes-in-Part.result.now c.in-Part.high c.in-Part.low c.args.e.now (c.in-Part.is ∙ ap (λ name. Part name c.in-Part.high c.in-Part.low) (sym c.bytes-in-Part.ensures)) c.put_part.ensures
+    wrote-part c.bytes-in-Part.result.now c.in-Part.high c.in-Part.low c.args.e.now
+    (c.in-Part.is ∙ ap (λ name. Part name c.in-Part.high c.in-Part.low) (sym c.bytes-in-Part.ensures))
+    c.put_part.ensures
 
 pub put_expr-returns-in-Literal : goal.put_expr-returns-in-Literal
 put_expr-returns-in-Literal t c = wrote-literal c.in-Literal.number c.args.e.now c.in-Literal.is c.put_sized.ensures

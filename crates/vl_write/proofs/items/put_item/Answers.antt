@@ -30,6 +30,10 @@ pub returns-in-Always : goal.returns-in-Always
 returns-in-Always c =
     let name = c.name-name.ensures ∙ ap item_name c.in-Always.is in
     puts-as
-    (clocked-left (codes "always @ (posedge clk) begin if (reset) ") c.name-name.result.now (codes " <= ") (sized_text c.in-Always.first) (codes "; else ") (condition_text c.in-Always.condition) (expr_text c.in-Always.value) (codes "; end\n")
+    (clocked-left (codes "always @ (posedge clk) begin if (reset) ") c.name-name.result.now
+    (codes " <= ") (sized_text c.in-Always.first)
+    (codes "; else ") (condition_text c.in-Always.condition) (expr_text c.in-Always.value) (codes "; end\n")
     ∙ ap (λ xs. item_text (Always xs c.in-Always.first c.in-Always.condition c.in-Always.value)) name ∙ ap item_text (sym c.in-Always.is))
-    (both c.put-in-Always.ensures (both c.put-in-Always-2.ensures (both c.put-in-Always-3.ensures (both c.put_sized.ensures (both c.put-in-Always-4.ensures (both c.put_condition.ensures c.put_value-in-Always.ensures))))))
+    (both c.put-in-Always.ensures (both c.put-in-Always-2.ensures
+    (both c.put-in-Always-3.ensures (both c.put_sized.ensures
+    (both c.put-in-Always-4.ensures (both c.put_condition.ensures c.put_value-in-Always.ensures))))))

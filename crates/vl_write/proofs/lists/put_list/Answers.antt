@@ -8,7 +8,8 @@ loop-part-init g c = none-joined c.args.between.now g.P.Part.text_of c.args.part
 
 pub loop-part-preserved : goal.loop-part-preserved
 loop-part-preserved g c =
-    one_more c.args.between.now g.P.Part.text_of c.args.parts.now c.loop-part.part-index c.part-item.result c.loop-part-test.true c.part-item.is c.loop-part.invariant refl (both c.put.ensures c.spell.ensures)
+    one_more c.args.between.now g.P.Part.text_of c.args.parts.now c.loop-part.part-index c.part-item.result
+    c.loop-part-test.true c.part-item.is c.loop-part.invariant refl (both c.put.ensures c.spell.ensures)
 
 pub returns : goal.returns
 returns g c = all_joined c.args.between.now g.P.Part.text_of c.args.parts.now c.loop-part.part-index c.loop-part.invariant c.loop-part-test.false

@@ -10,7 +10,10 @@ returns c =
     let m = c.args.module.now in
     let attrs = attrs_text (codes "") m.attrs in
     let ports = joined (codes ",\n") (map port_text m.ports) in
-    let put = puts-as (λ i. attrs_text (codes "") (c.as_slice.ensures i) ++ (codes "module " ++ (c.bytes.ensures i ++ (codes " (\n" ++ (joined (codes ",\n") (map port_text (c.as_slice-2.ensures i)) ++ codes "\n);\n")))))
+    let put = puts-as (λ i. attrs_text (codes "") (c.as_slice.ensures i)
+    ++ (codes "module " ++ (c.bytes.ensures i
+    ++ (codes " (\n"
+    ++ (joined (codes ",\n") (map port_text (c.as_slice-2.ensures i)) ++ codes "\n);\n")))))
     (both c.put_attrs.ensures (both c.put.ensures (both c.put-2.ensures (both c.put-3.ensures (both c.put_list.ensures c.put-4.ensures))))) in
     IfOk-weaker c.finish.result _ _
     (λ text done.

@@ -28,10 +28,13 @@ returns-in-Wraps c from to mode saturate is =
     let way = subst (λ (way : Way). IsWay way c.args.self) c.in-Wraps.is is.way in
     let wraps : false ≡ saturate = sym way.1 ∙ is.ends.saturate_is in
     let r = to_z-of_z w64 c.biased_shift.result (record { sfits = c.biased_shift.type_inv }) in
-    let shifted : IsShifted c.args.v c.args.self.bias false (2 ^ c.args.self.down) c.biased_shift.result = rw (to_z-of_z w64 c.args.v c.ranges.v, to_z-of_z w64 c.args.self.bias bias) at c.biased_shift.ensures.shifted in
+    let shifted : IsShifted c.args.v c.args.self.bias false (2 ^ c.args.self.down) c.biased_shift.result =
+    rw (to_z-of_z w64 c.args.v c.ranges.v, to_z-of_z w64 c.args.self.bias bias) at
+    c.biased_shift.ensures.shifted in
     let settles : Settles to false c.biased_shift.result c.wrapped.result = rw r at (c.wrapped.ensures to saturate is.ends) in
     rw (to_z-of_z w64 c.wrapped.result (record { sfits = c.wrapped.type_inv }))
-    (plain_converts c.args.self from to mode saturate c.args.v c.biased_shift.result c.wrapped.result is way.0 shifted (subst (λ (s : Bool). Settles to s c.biased_shift.result c.wrapped.result) wraps settles))
+    (plain_converts c.args.self from to mode saturate c.args.v c.biased_shift.result c.wrapped.result is way.0
+    shifted (subst (λ (s : Bool). Settles to s c.biased_shift.result c.wrapped.result) wraps settles))
 
 pub returns-in-Ends : goal.returns-in-Ends
 returns-in-Ends c from to mode saturate is =
@@ -39,10 +42,14 @@ returns-in-Ends c from to mode saturate is =
     let way = subst (λ (way : Way). IsWay way c.args.self) c.in-Ends.is is.way in
     let saturates : true ≡ saturate = sym way.1 ∙ is.ends.saturate_is in
     let r = to_z-of_z w64 c.biased_shift-in-Ends.result (record { sfits = c.biased_shift-in-Ends.type_inv }) in
-    let shifted : IsShifted c.args.v c.args.self.bias false (2 ^ c.args.self.down) c.biased_shift-in-Ends.result = rw (to_z-of_z w64 c.args.v c.ranges.v, to_z-of_z w64 c.args.self.bias bias) at c.biased_shift-in-Ends.ensures.shifted in
+    let shifted : IsShifted c.args.v c.args.self.bias false (2 ^ c.args.self.down) c.biased_shift-in-Ends.result =
+    rw (to_z-of_z w64 c.args.v c.ranges.v, to_z-of_z w64 c.args.self.bias bias) at
+    c.biased_shift-in-Ends.ensures.shifted in
     let settles : Settles to true c.biased_shift-in-Ends.result c.nearest.result = rw r at (c.nearest.ensures to saturate is.ends) in
     rw (to_z-of_z w64 c.nearest.result (record { sfits = c.nearest.type_inv }))
-    (plain_converts c.args.self from to mode saturate c.args.v c.biased_shift-in-Ends.result c.nearest.result is way.0 shifted (subst (λ (s : Bool). Settles to s c.biased_shift-in-Ends.result c.nearest.result) saturates settles))
+    (plain_converts c.args.self from to mode saturate c.args.v c.biased_shift-in-Ends.result c.nearest.result is
+    way.0 shifted
+    (subst (λ (s : Bool). Settles to s c.biased_shift-in-Ends.result c.nearest.result) saturates settles))
 
 pub settled-requires-clause-small : goal.settled-requires-clause-small
 settled-requires-clause-small c = rw (to_z-of_z w64 c.args.v c.ranges.v) (c.requires.room.1.small c.args.v c.requires.room.2)

@@ -30,7 +30,9 @@ returns c from to mode saturate is =
     let r = to_z-of_z w64 c.biased_shift.result (record { sfits = c.biased_shift.type_inv }) in
     let t = to_z-of_z w64 c.stored_value.result (record { sfits = c.stored_value.type_inv }) in
     let q : c.bias_for.result ≡ bias_for (c.args.v *ℤ c.args.self.scale) c.args.self.bias c.args.self.below = rw p at c.bias_for.ensures in
-    let shifted : IsShifted (c.args.v *ℤ c.args.self.scale) (bias_for (c.args.v *ℤ c.args.self.scale) c.args.self.bias c.args.self.below) c.args.self.even (2 ^ c.args.self.down) c.biased_shift.result = rw (p, k, q) at c.biased_shift.ensures.shifted in
+    let shifted : IsShifted (c.args.v *ℤ c.args.self.scale)
+    (bias_for (c.args.v *ℤ c.args.self.scale) c.args.self.bias c.args.self.below) c.args.self.even
+    (2 ^ c.args.self.down) c.biased_shift.result = rw (p, k, q) at c.biased_shift.ensures.shifted in
     rw t (narrow_converts c.args.self from to mode saturate c.args.v c.biased_shift.result c.stored_value.result is shifted (rw r at (c.stored_value.ensures to saturate is.ends)))
 
 pub overflow_mul-scaled : goal.overflow_mul-scaled

@@ -10,7 +10,9 @@ pub returns-clause-ends : goal.returns-clause-ends
 returns-clause-ends c =
     let valid : IsType (Num c.in-Num.signed c.in-Num.width c.in-Num.frac) = rw c.in-Num.is at c.requires in
     let small : c.in-Num.width ≤ 60 = omega (arith, c.if-width-gt60.false) in
-    let ends = ends_kept c.in-Num.width c.in-Num.signed c.lowest.result c.highest.result small (record { sfits = c.lowest.type_inv }) (record { sfits = c.highest.type_inv }) c.lowest.ensures c.highest.ensures in
+    let ends = ends_kept c.in-Num.width c.in-Num.signed c.lowest.result c.highest.result small
+    (record { sfits = c.lowest.type_inv })
+    (record { sfits = c.highest.type_inv }) c.lowest.ensures c.highest.ensures in
     rw c.in-Num.is (record { valid = valid; number = tt; width_below = small; saturate_is = refl; low_is = ends.0; high_is = ends.1 })
 
 pub overflow_cast-result : goal.overflow_cast-result

@@ -6,7 +6,8 @@ use Rattle.dg_blocks.specs.declared.narrow.Narrow.{Narrow}
 use Rattle.dg_blocks.specs.declared.prepared.Prepared.{Prepared}
 use Rattle.dg_blocks.specs.declared.prepared.Prepared.TheVariants.{Converted, Times, Scaled}
 use Rattle.dg_blocks.specs.Prepared.{IsPrepared}
-use Rattle.dg_blocks.proofs.Outputs.{converted_fits, converted_room, converted_gives, left_fits, right_fits, times_fits, times_room, times_gives, input_fits, coefficient_fits, scaled_fits, scaled_room, scaled_gives}
+use Rattle.dg_blocks.proofs.Outputs.{converted_fits, converted_room, converted_gives, left_fits, right_fits, times_fits, times_room, times_gives, input_fits, coefficient_fits, scaled_fits}
+use Rattle.dg_blocks.proofs.Outputs.{scaled_room, scaled_gives}
 use Rattle.dg_blocks.proofs.prepared.Prepared.alone.Goals as goal
 
 -- a number that fits 64 bits, as the code has it
@@ -24,7 +25,9 @@ record Converts (operation : Operation) (inputs : List ℤ) (narrow : Narrow) : 
   is : IsPrepared (Converted narrow) operation
   input : FitsSigned w64 (value_of inputs 0)
 
-converts : (operation : Operation) (inputs : List ℤ) (prepared : Prepared) (narrow : Narrow) → IsPrepared prepared operation → CanCarryOut operation inputs → prepared ≡ Converted narrow → Converts operation inputs narrow
+converts : (operation : Operation) (inputs : List ℤ) (prepared : Prepared) (narrow : Narrow)
+    → IsPrepared prepared operation → CanCarryOut operation inputs → prepared ≡ Converted narrow
+    → Converts operation inputs narrow
 converts operation inputs prepared narrow ready can same =
     let is : IsPrepared (Converted narrow) operation = subst (λ (p : Prepared). IsPrepared p operation) same ready in
     record { is = is; input = converted_fits operation inputs can narrow is }
@@ -36,7 +39,9 @@ record Multiplies (operation : Operation) (inputs : List ℤ) (narrow : Narrow) 
   right : FitsSigned w64 (value_of inputs 1)
   product : FitsSigned w64 (value_of inputs 0 *ℤ value_of inputs 1)
 
-multiplies : (operation : Operation) (inputs : List ℤ) (prepared : Prepared) (narrow : Narrow) → IsPrepared prepared operation → CanCarryOut operation inputs → prepared ≡ Times narrow → Multiplies operation inputs narrow
+multiplies : (operation : Operation) (inputs : List ℤ) (prepared : Prepared) (narrow : Narrow)
+    → IsPrepared prepared operation → CanCarryOut operation inputs → prepared ≡ Times narrow
+    → Multiplies operation inputs narrow
 multiplies operation inputs prepared narrow ready can same =
     let is : IsPrepared (Times narrow) operation = subst (λ (p : Prepared). IsPrepared p operation) same ready in
     record { is = is; left = left_fits operation inputs can narrow is; right = right_fits operation inputs can narrow is; product = times_fits operation inputs can narrow is }
@@ -48,10 +53,19 @@ record Scales (operation : Operation) (inputs : List ℤ) (coefficient : ℤ) (n
   constant : FitsSigned w64 coefficient
   product : FitsSigned w64 (value_of inputs 0 *ℤ coefficient)
 
-scales : (operation : Operation) (inputs : List ℤ) (prepared : Prepared) (coefficient : ℤ) (narrow : Narrow) → IsPrepared prepared operation → CanCarryOut operation inputs → prepared ≡ Scaled coefficient narrow → Scales operation inputs coefficient narrow
+scales : (operation : Operation) (inputs : List ℤ) (prepared : Prepared) (coefficient : ℤ) (narrow : Narrow)
+    → IsPrepared prepared operation → CanCarryOut operation inputs → prepared ≡ Scaled coefficient narrow
+    → Scales operation inputs coefficient narrow
 scales operation inputs prepared coefficient narrow ready can same =
     let is : IsPrepared (Scaled coefficient narrow) operation = subst (λ (p : Prepared). IsPrepared p operation) same ready in
-    record { is = is; input = input_fits operation inputs can narrow coefficient is; constant = coefficient_fits operation inputs can narrow coefficient is; product = scaled_fits operation inputs can narrow coefficient is }
+    record {
+      is = is;
+      input = input_fits operation inputs can narrow coefficient is;
+      constant =
+          coefficient_fits operation inputs can narrow coefficient is;
+      product =
+          scaled_fits operation inputs can narrow coefficient is;
+    }
 
 pub overflow_cast-inputs : goal.overflow_cast-inputs
 overflow_cast-inputs c = wide_fits _ (converts c.requires.0 c.args.inputs.now _ c.in-Converted.narrow c.requires.1 c.requires.2 c.in-Converted.is).input
@@ -92,7 +106,13 @@ returns-in-Times c operation ready can =
     let p = to_z-of_z w64 (value_of c.args.inputs.now 0 *ℤ value_of c.args.inputs.now 1) all.product in
     let n : FitsSigned w64 c.convert-in-Times.result = record { sfits = c.convert-in-Times.type_inv } in
     let r : to_z w128 (of_z w128 c.from-in-Times.result) ≡ c.convert-in-Times.result = omega (arith, ints, c.from-in-Times.ensures, n) in
-    rw r (times_gives operation c.args.inputs.now can c.in-Times.narrow all.is c.convert-in-Times.result (λ from narrow. rw (short (value_of c.args.inputs.now 0) all.left, short (value_of c.args.inputs.now 1) all.right, p) at (c.convert-in-Times.ensures from operation.result operation.rounding operation.saturate narrow)))
+    rw r (times_gives operation c.args.inputs.now can c.in-Times.narrow all.is c.convert-in-Times.result
+    (λ from narrow. rw (
+      short (value_of c.args.inputs.now 0) all.left,
+      short (value_of c.args.inputs.now 1) all.right,
+      p,
+    ) at
+    (c.convert-in-Times.ensures from operation.result operation.rounding operation.saturate narrow)))
 
 pub overflow_cast-scaled : goal.overflow_cast-scaled
 overflow_cast-scaled c = wide_fits _ (scales c.requires.0 c.args.inputs.now _ c.in-Scaled.coefficient c.in-Scaled.narrow c.requires.1 c.requires.2 c.in-Scaled.is).input
@@ -106,7 +126,8 @@ pub convert-requires-in-Scaled-clause-room : goal.convert-requires-in-Scaled-cla
 convert-requires-in-Scaled-clause-room c =
     let all = scales c.requires.0 c.args.inputs.now _ c.in-Scaled.coefficient c.in-Scaled.narrow c.requires.1 c.requires.2 c.in-Scaled.is in
     let p = to_z-of_z w64 (value_of c.args.inputs.now 0 *ℤ c.in-Scaled.coefficient) all.product in
-    rw (short (value_of c.args.inputs.now 0) all.input, to_z-of_z w64 c.in-Scaled.coefficient all.constant, p) (scaled_room c.requires.0 c.args.inputs.now c.requires.2 c.in-Scaled.narrow c.in-Scaled.coefficient all.is)
+    rw (short (value_of c.args.inputs.now 0) all.input, to_z-of_z w64 c.in-Scaled.coefficient all.constant, p)
+    (scaled_room c.requires.0 c.args.inputs.now c.requires.2 c.in-Scaled.narrow c.in-Scaled.coefficient all.is)
 
 pub returns-in-Scaled : goal.returns-in-Scaled
 returns-in-Scaled c operation ready can =
@@ -114,4 +135,8 @@ returns-in-Scaled c operation ready can =
     let p = to_z-of_z w64 (value_of c.args.inputs.now 0 *ℤ c.in-Scaled.coefficient) all.product in
     let n : FitsSigned w64 c.convert-in-Scaled.result = record { sfits = c.convert-in-Scaled.type_inv } in
     let r : to_z w128 (of_z w128 c.from-in-Scaled.result) ≡ c.convert-in-Scaled.result = omega (arith, ints, c.from-in-Scaled.ensures, n) in
-    rw r (scaled_gives operation c.args.inputs.now can c.in-Scaled.narrow c.in-Scaled.coefficient all.is c.convert-in-Scaled.result (λ from narrow. rw (short (value_of c.args.inputs.now 0) all.input, to_z-of_z w64 c.in-Scaled.coefficient all.constant, p) at (c.convert-in-Scaled.ensures from operation.result operation.rounding operation.saturate narrow)))
+    rw r (scaled_gives operation c.args.inputs.now can c.in-Scaled.narrow c.in-Scaled.coefficient all.is
+    c.convert-in-Scaled.result (λ from narrow. rw
+    (short (value_of c.args.inputs.now 0) all.input, to_z-of_z w64 c.in-Scaled.coefficient all.constant, p)
+    at (c.convert-in-Scaled.ensures from operation.result operation.rounding operation.saturate
+    narrow)))

@@ -13,7 +13,8 @@ alone-requires c = (operation_of c.args.call.now, c.requires.prepared, c.require
 
 pub sum-requires-clause-prepared : goal.sum-requires-clause-prepared
 sum-requires-clause-prepared c =
-    let is : IsPrepared (Summed c.in-Summed.frac c.in-Summed.narrow) (operation_of c.args.call.now) = subst (λ (p : Prepared). IsPrepared p (operation_of c.args.call.now)) c.in-Summed.is c.requires.prepared in
+    let is : IsPrepared (Summed c.in-Summed.frac c.in-Summed.narrow) (operation_of c.args.call.now) =
+    subst (λ (p : Prepared). IsPrepared p (operation_of c.args.call.now)) c.in-Summed.is c.requires.prepared in
     let bounds = frac_bounds is.0 is.2.valid in
     rw (to_z-of_z w16 c.in-Summed.frac (omega (arith, ints, bounds.0, bounds.1, is.3))) is
 

@@ -26,11 +26,15 @@ loop-place-preserved c =
       | in-Some+in-Some-cell w ↦
           let cell = w.in-Some-cell.ensures in
           rw (more, w.ports-is, w.note_first.ensures)
-          (numbered_more (take i blocks) block c.args.side lengths w.in-Some.number i w.slot.result w.in-Some-cell.cell c.loop-place.ports.items (length_done blocks i c.loop-place-test.true) w.slot.ensures
+          (numbered_more (take i blocks) block c.args.side lengths w.in-Some.number i w.slot.result
+          w.in-Some-cell.cell c.loop-place.ports.items
+          (length_done blocks i c.loop-place-test.true) w.slot.ensures
           (sym c.number_of.ensures ∙ w.in-Some.is) cell.0 cell.1 c.loop-place.invariant)
       | in-Some+in_default-cell w ↦
           rw (more, w.ports-is)
-          (numbered_past (take i blocks) block c.args.side lengths w.in-Some.number w.slot.result c.loop-place.ports.items w.slot.ensures (sym c.number_of.ensures ∙ w.in-Some.is) w.in_default-cell.ensures c.loop-place.invariant)
+          (numbered_past (take i blocks) block c.args.side lengths w.in-Some.number w.slot.result
+          c.loop-place.ports.items w.slot.ensures
+          (sym c.number_of.ensures ∙ w.in-Some.is) w.in_default-cell.ensures c.loop-place.invariant)
       | in_default w ↦
           rw (more, w.ports-is) (numbered_none (take i blocks) block c.args.side lengths c.loop-place.ports.items (sym c.number_of.ensures ∙ w.in_default.is) c.loop-place.invariant)
     ]
@@ -58,5 +62,7 @@ returns c =
     record {
       rows = c.in_ok-rows.ensures.rows;
       counts = rw c.in_ok-rows.ensures.lengths c.in_ok-counts.ensures;
-      ports = subst (λ (done : List NestedBlock). IsRowTable c.in_ok-rows.rows.lengths.items (numbered_at done side) c.loop-place.ports.items) (take_all c.loop-place.place blocks c.loop-place-test.false) c.loop-place.invariant;
+      ports = subst (λ (done : List NestedBlock). IsRowTable c.in_ok-rows.rows.lengths.items
+          (numbered_at done side) c.loop-place.ports.items)
+          (take_all c.loop-place.place blocks c.loop-place-test.false) c.loop-place.invariant;
     }

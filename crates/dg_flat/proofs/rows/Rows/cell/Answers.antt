@@ -30,7 +30,9 @@ returns-else-number-index c = elim c.if-number-eq0.branch [
   | then-number-eq0 w ↦ absurd (above_zero c.args.number c.if-number-eq0.value w.if-number-eq0.true w.value-is c.if-number-index.false)
   | else-number-eq0 w ↦
       let lengths = c.args.self.now.lengths.items in
-      let it = has lengths c.args.row c.args.number w.index.result.now c.requires.there w.index.ensures w.if-number-eq0.false (ltb-false w.index.result.now c.args.number (sym w.value-is ∙ c.if-number-index.false)) in
+      let it = has lengths c.args.row c.args.number w.index.result.now c.requires.there w.index.ensures
+      w.if-number-eq0.false
+      (ltb-false w.index.result.now c.args.number (sym w.value-is ∙ c.if-number-index.false)) in
       let start = c.index-else-number-index.ensures ∙ c.requires.rows.starts.at c.args.row c.index-else-number-index.result.now c.requires.there in
       let below = cell_below lengths c.args.row c.args.number it in
       (it, omega (arith, start), omega (arith, start, below))
@@ -41,7 +43,9 @@ overflow_add-result c = elim c.if-number-eq0.branch [
   | then-number-eq0 w ↦ absurd (above_zero c.args.number c.if-number-eq0.value w.if-number-eq0.true w.value-is c.if-number-index.false)
   | else-number-eq0 w ↦
       let lengths = c.args.self.now.lengths.items in
-      let it = has lengths c.args.row c.args.number w.index.result.now c.requires.there w.index.ensures w.if-number-eq0.false (ltb-false w.index.result.now c.args.number (sym w.value-is ∙ c.if-number-index.false)) in
+      let it = has lengths c.args.row c.args.number w.index.result.now c.requires.there w.index.ensures
+      w.if-number-eq0.false
+      (ltb-false w.index.result.now c.args.number (sym w.value-is ∙ c.if-number-index.false)) in
       let start = c.index-else-number-index.ensures ∙ c.requires.rows.starts.at c.args.row c.index-else-number-index.result.now c.requires.there in
       omega (arith, start, cell_below lengths c.args.row c.args.number it, c.requires.rows.cells)
 ]

@@ -38,6 +38,8 @@ returns-clause-rows c =
     let is : lengths ≡ c.args.lengths.items = c.deref-length-items.ensures.value in
     let all : i ≡ length lengths = omega (arith, c.loop-length-test.false, c.loop-length.auto.length-index-end) in
     record {
-      starts = subst (λ (xs : List ℕ). IsTable (length xs) (λ row. sum (take row xs)) c.loop-length.starts.items) is (subst (λ (n : ℕ). IsTable n (λ row. sum (take row lengths)) c.loop-length.starts.items) all before.starts);
+      starts = subst (λ (xs : List ℕ). IsTable (length xs) (λ row. sum (take row xs)) c.loop-length.starts.items) is
+          (subst
+          (λ (n : ℕ). IsTable n (λ row. sum (take row lengths)) c.loop-length.starts.items) all before.starts);
       cells = before.cells ∙ ap sum (take_all i lengths c.loop-length-test.false) ∙ ap sum is;
     }

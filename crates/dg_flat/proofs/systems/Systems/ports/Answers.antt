@@ -11,7 +11,9 @@ pub returns-in-Some : goal.returns-in-Some
 returns-in-Some c =
     let blocks = c.args.blocks.now in
     let own = rw c.in-Some.is at (c.own_ports.ensures blocks c.args.place) in
-    own ∙ ap (λ (b : NestedBlock). ports_of blocks c.args.side c.args.place b.part) (sym c.index-blocks-place.is) ∙ ports_read blocks c.args.side c.args.place c.index-blocks-place.result c.requires.there c.index-blocks-place.is
+    own ∙ ap (λ (b : NestedBlock). ports_of blocks c.args.side c.args.place b.part) (sym c.index-blocks-place.is)
+    ∙ ports_read blocks c.args.side c.args.place c.index-blocks-place.result c.requires.there
+    c.index-blocks-place.is
 
 pub returns-in-In : goal.returns-in-In
 returns-in-In c =

@@ -13,4 +13,7 @@ returns c =
     c.loop-period.invariant ∙ ap (map or_one)
     (take_all c.loop-period.period-index known (omega (arith, c.loop-period-test.false))
     ∙ c.as_slice-period-items.ensures.value
-    ∙ rw (c.in_ok-known.ensures.values, c.as_slice.ensures) (rounds_are diagram (all_rests round.blocks.now) round.links.sources (length diagram.blocks) c.args.first.items (ap all_rests c.requires.blocks) c.requires.sources c.requires.first_size))
+    ∙ rw (c.in_ok-known.ensures.values, c.as_slice.ensures)
+    (rounds_are diagram (all_rests round.blocks.now) round.links.sources
+    (length diagram.blocks) c.args.first.items
+    (ap all_rests c.requires.blocks) c.requires.sources c.requires.first_size))

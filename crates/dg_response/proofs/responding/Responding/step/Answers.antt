@@ -83,7 +83,9 @@ long c = c.step.auto.out ∙ ap length c.as_mut_slice.ensures.value
 row_is : (c : After-step) → (with_items c.args.self.now.row c.step.new.out).items ≡ c.step.new.out
 row_is c = with_items_is c.args.self.now.row c.step.new.out (long c ∙ sym c.args.self.now.row.ok.0)
 
-stepped : (c : After-step) → IsStepped c.args.checked.now c.args.self.now.sim c.step.new.self (take c.args.rows.now.columns (drop (c.args.sample * c.args.rows.now.columns) c.args.rows.now.cells)) c.step.new.out
+stepped : (c : After-step) → IsStepped c.args.checked.now c.args.self.now.sim c.step.new.self
+    (take c.args.rows.now.columns (drop (c.args.sample * c.args.rows.now.columns) c.args.rows.now.cells))
+    c.step.new.out
 stepped c =
     let rows = c.args.rows.now in
     subst (λ (row : List ℤ). IsStepped c.args.checked.now c.args.self.now.sim c.step.new.self row c.step.new.out)

@@ -16,4 +16,6 @@ loop-pipeline-preserved c =
     (subst (HasEnds c.put_ends.new.ends.entries) c.bytes.ensures c.in_ok-put_ends.ensures.ends) c.loop-pipeline.invariant
 
 pub returns : goal.returns
-returns c = subst (λ (lines : List Pipeline). HaveEnds lines c.loop-pipeline.by_bytes.entries) (take_all c.loop-pipeline.pipeline-index c.args.pipelines.now c.loop-pipeline-test.false) c.loop-pipeline.invariant
+returns c = subst (λ (lines : List Pipeline). HaveEnds lines c.loop-pipeline.by_bytes.entries)
+    (take_all c.loop-pipeline.pipeline-index c.args.pipelines.now c.loop-pipeline-test.false)
+    c.loop-pipeline.invariant

@@ -23,7 +23,15 @@ pasts_are : (c : After-keep) → (with_items c.self.inside.pasts c.keep.new.past
 pasts_are c = with_items_is c.self.inside.pasts c.keep.new.pasts (pasts_size c ∙ sym c.self.inside.pasts.ok.0)
 
 -- it was a simulator, and each memory has what is kept after the sample
-was_sim : (c : After-keep) → IsSimOf c.args.checked.now (record { program = c.self.inside.program; samples = c.self.inside.samples; row = c.self.inside.row.items; pasts = c.self.inside.pasts.items; prepared = c.self.inside.prepared.items })
+was_sim : (c : After-keep) → IsSimOf c.args.checked.now
+    (record {
+      program = c.self.inside.program;
+      samples = c.self.inside.samples;
+      row =
+          c.self.inside.row.items;
+      pasts = c.self.inside.pasts.items;
+      prepared = c.self.inside.prepared.items;
+    })
 was_sim c = rw (sym c.self.view_is) at c.requires.sim
 
 each_is : (c : After-keep) → (m : ℕ) (memory : Memory) (past : PastValues) → slice_get c.self.inside.program.memories m ≡ Some memory → slice_get c.self.inside.pasts.items m ≡ Some past
@@ -34,7 +42,9 @@ pub returns-clause-sim : goal.returns-clause-sim
 returns-clause-sim c =
     let self = c.self.inside in
     let kept = (goal.at.returns-clause-sim c).After-keep in
-    rw (row_is kept, pasts_are kept) (still_sim c.args.checked.now self.program self.samples self.row.items c.sweep.new.row self.pasts.items c.keep.new.pasts self.prepared.items (was_sim kept) (row_size kept) (pasts_size kept) (each_is kept) (self.samples + 1))
+    rw (row_is kept, pasts_are kept) (still_sim c.args.checked.now self.program self.samples self.row.items
+    c.sweep.new.row self.pasts.items c.keep.new.pasts self.prepared.items (was_sim kept) (row_size kept)
+    (pasts_size kept) (each_is kept) (self.samples + 1))
 
 pub returns-clause-stepped : goal.returns-clause-stepped
 returns-clause-stepped c =
@@ -42,5 +52,7 @@ returns-clause-stepped c =
     let kept = (goal.at.returns-clause-stepped c).After-keep in
     let agrees = rw (c.as_slice.ensures.value, c.as_slice-2.ensures.value, c.as_mut_slice.ensures.value) at c.sweep.ensures in
     let out_is = rw (c.as_slice-4.ensures.value, c.as_slice-5.ensures, row_is kept) at c.show.ensures in
-    rw (row_is kept, pasts_are kept, sym c.self.view_is) (is_stepped c.args.checked.now self.program self.samples self.row.items c.sweep.new.row self.pasts.items c.keep.new.pasts self.prepared.items (was_sim kept) (row_size kept) (pasts_size kept) (each_is kept)
+    rw (row_is kept, pasts_are kept, sym c.self.view_is)
+    (is_stepped c.args.checked.now self.program self.samples self.row.items c.sweep.new.row self.pasts.items
+    c.keep.new.pasts self.prepared.items (was_sim kept) (row_size kept) (pasts_size kept) (each_is kept)
     c.args.numbers.now c.show.new.out c.kept_moves.ensures.moves agrees out_is (self.samples + 1) (omega arith))

@@ -26,7 +26,9 @@ index-requires c =
     omega (arith, inside, size, long)
 
 pub meet-requires-clause-there : goal.meet-requires-clause-there
-meet-requires-clause-there c = source_there c.args.rows.now (seen c.args.self.now) c.args.last c.pop.new.self.items c.in-Some.source (next (goal.at.meet-requires-clause-there c).In-Some) c.requires.known
+meet-requires-clause-there c = source_there c.args.rows.now
+    (seen c.args.self.now) c.args.last c.pop.new.self.items c.in-Some.source
+    (next (goal.at.meet-requires-clause-there c).In-Some) c.requires.known
 
 pub join-requires : goal.join-requires
 join-requires c = can_join c.args.rows.now (seen c.args.self.now) c.in-Some.source c.in-Held.place c.args.last c.requires.state c.requires.last
@@ -41,11 +43,13 @@ returns-in-Unmet c =
 pub returns-in-Held : goal.returns-in-Held
 returns-in-Held c =
     let own = next (goal.at.returns-in-Held c).In-Some in
-    let is = next_mark c.args.rows.now (seen c.args.self.now) c.args.last c.pop.new.self.items c.in-Some.source c.index.result.now (Held c.in-Held.place) own c.requires.known c.index.ensures c.in-Held.is in
+    let is = next_mark c.args.rows.now (seen c.args.self.now) c.args.last c.pop.new.self.items c.in-Some.source
+    c.index.result.now (Held c.in-Held.place) own c.requires.known c.index.ensures c.in-Held.is in
     step_kept c.args.rows.now (seen c.args.self.now) (seen c.join.new.self) c.args.last c.pop.new.self.items c.in-Some.source c.in-Held.place own is c.join.ensures.groups c.join.ensures.kept
 
 pub returns-in-Placed : goal.returns-in-Placed
 returns-in-Placed c =
     let own = next (goal.at.returns-in-Placed c).In-Some in
-    let is = next_mark c.args.rows.now (seen c.args.self.now) c.args.last c.pop.new.self.items c.in-Some.source c.index.result.now (Placed c.in-Placed.rank) own c.requires.known c.index.ensures c.in-Placed.is in
+    let is = next_mark c.args.rows.now (seen c.args.self.now) c.args.last c.pop.new.self.items c.in-Some.source
+    c.index.result.now (Placed c.in-Placed.rank) own c.requires.known c.index.ensures c.in-Placed.is in
     step_passed c.args.rows.now (seen c.args.self.now) c.args.last c.pop.new.self.items c.in-Some.source c.in-Placed.rank own is

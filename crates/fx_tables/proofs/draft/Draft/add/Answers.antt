@@ -23,7 +23,9 @@ returns-in-Multipliers-clause-describes c earlier d =
     Added-as earlier _ _ _ _ c.in-Multipliers.is
     (add_multipliers c.args.self.now earlier c.in-Multipliers.count set.result set.new.slot set.ensures.new set.ensures.set d)
 
-as_entry : {E : Type 0} (r : Result Bool E) (old new : Draft) (entry other : PlanEntry) → entry ≡ other → IfOk r (λ fresh. (earlier : List PlanEntry) → Describes old earlier → Added earlier other fresh new) → IfOk r (λ fresh. (earlier : List PlanEntry) → Describes old earlier → Added earlier entry fresh new)
+as_entry : {E : Type 0} (r : Result Bool E) (old new : Draft) (entry other : PlanEntry) → entry ≡ other
+    → IfOk r (λ fresh. (earlier : List PlanEntry) → Describes old earlier → Added earlier other fresh new)
+    → IfOk r (λ fresh. (earlier : List PlanEntry) → Describes old earlier → Added earlier entry fresh new)
 as_entry (Ok fresh) old new entry other is added = λ earlier d. Added-as earlier entry other fresh new is (added earlier d)
 as_entry (Err e) old new entry other is added = added
 
@@ -41,7 +43,9 @@ returns-in-Multipliers-clause-in_range c fine range d =
     range_multipliers c.args.self.now c.in-Multipliers.count set.new.slot (OnTrue_at fine set.ensures.set)
     (range-as _ _ c.in-Multipliers.is range) d
 
-as_range : {E : Type 0} (r : Result Bool E) (old new : Draft) (entry other : PlanEntry) → entry ≡ other → IfOk r (λ fresh. IsTrue fresh → IsEntryInRange other → IsDraftInRange old → IsDraftInRange new) → IfOk r (λ fresh. IsTrue fresh → IsEntryInRange entry → IsDraftInRange old → IsDraftInRange new)
+as_range : {E : Type 0} (r : Result Bool E) (old new : Draft) (entry other : PlanEntry) → entry ≡ other
+    → IfOk r (λ fresh. IsTrue fresh → IsEntryInRange other → IsDraftInRange old → IsDraftInRange new)
+    → IfOk r (λ fresh. IsTrue fresh → IsEntryInRange entry → IsDraftInRange old → IsDraftInRange new)
 as_range (Ok fresh) old new entry other is kept = λ fine range d. kept fine (range-as entry other is range) d
 as_range (Err e) old new entry other is kept = kept
 

@@ -15,7 +15,10 @@ loop-column-preserved c =
     record {
       copied = pushed ∙ ap (λ (front : List ℕ). front ++ period ∷ []) c.loop-column.invariant.copied ∙ sym (map_more (λ (column : Column). column.period) columns i _ c.loop-column-test.true);
       counted = omega (arith, c.push.new.self.ok.0, ap length pushed, length-append old.items (period ∷ []), old.ok.0, c.loop-column.invariant.counted);
-      hits = subst (All (λ (p : ℕ). 0 < p)) (sym pushed) (All-push (λ (p : ℕ). 0 < p) old.items period c.loop-column.invariant.hits (All-get_or (λ (column : Column). 0 < column.period) columns i _ c.loop-column-test.true c.requires.periods));
+      hits = subst (All (λ (p : ℕ). 0 < p)) (sym pushed)
+          (All-push (λ (p : ℕ). 0 < p) old.items period c.loop-column.invariant.hits
+          (All-get_or (λ (column : Column). 0 < column.period) columns i _ c.loop-column-test.true
+          c.requires.periods));
     }
 
 pub returns : goal.returns

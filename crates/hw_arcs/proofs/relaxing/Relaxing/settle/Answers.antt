@@ -12,7 +12,10 @@ abbrev no_arc : Arc
 no_arc = record { from = 0; to = 0; counts = false; gain = 0; slack = 0 }
 
 -- the arc was looked at
-looked : (c : In_ok-relax) → IsLooked c.args.arcs.now (length c.args.self.now.lat.items) c.args.limit (seen c.args.self.now) (seen c.loop-number.self) (seen c.relax.new.self) (drop (c.loop-number.number-index + 1) c.args.row.now) (get_or c.args.arcs.now (get_or c.args.row.now c.loop-number.number-index 0) no_arc)
+looked : (c : In_ok-relax) → IsLooked c.args.arcs.now (length c.args.self.now.lat.items) c.args.limit
+    (seen c.args.self.now) (seen c.loop-number.self) (seen c.relax.new.self)
+    (drop (c.loop-number.number-index + 1) c.args.row.now)
+    (get_or c.args.arcs.now (get_or c.args.row.now c.loop-number.number-index 0) no_arc)
 looked c =
     row_looked c.args.arcs.now (length c.args.self.now.lat.items) c.args.limit (seen c.args.self.now) (seen c.loop-number.self) (seen c.relax.new.self) c.args.row.now c.loop-number.number-index no_arc
     c.requires.known c.requires.row c.loop-number-test.true c.in_ok-relax.ensures c.loop-number.invariant
@@ -89,6 +92,8 @@ pub returns-clause-end : goal.returns-clause-end
 returns-clause-end c =
     record {
       within = c.loop-number.invariant.within;
-      settled = subst (λ (left : List ℕ). AreSettled c.args.arcs.now (seen c.loop-number.self) left) (drop_all c.loop-number.number-index c.args.row.now c.loop-number-test.false) c.loop-number.invariant.settled;
+      settled = subst (λ (left : List ℕ). AreSettled c.args.arcs.now (seen c.loop-number.self) left)
+          (drop_all c.loop-number.number-index c.args.row.now c.loop-number-test.false)
+          c.loop-number.invariant.settled;
       work = c.loop-number.invariant.work;
     }

@@ -29,7 +29,9 @@ settle-requires-clause-settled c =
     let here = there (goal.at.settle-requires-clause-settled c).In-Some in
     let size = c.requires.rows.size in
     let after : State = popped (seen c.args.self.now) c.in-Some.block (awaited c.pop.new.self) in
-    let row : c.as_slice-row.result.now ≡ row_at c.args.rows.now c.in-Some.block = c.as_slice-row.ensures ∙ get_or_read c.args.rows.now c.in-Some.block c.index-rows-block.result (omega (arith, here, size)) c.index-rows-block.is [] in
+    let row : c.as_slice-row.result.now ≡ row_at c.args.rows.now c.in-Some.block =
+    c.as_slice-row.ensures ∙ get_or_read c.args.rows.now c.in-Some.block c.index-rows-block.result
+    (omega (arith, here, size)) c.index-rows-block.is [] in
     subst (λ (row : List ℕ). AreSettled c.args.arcs.now after row) (sym row)
     (pop_settled c.args.arcs.now (length c.args.self.now.lat.items) c.in-Some.block (awaited c.pop.new.self) c.args.rows.now (seen c.args.self.now) after c.requires.state
     (took (goal.at.settle-requires-clause-settled c).In-Some) c.requires.rows refl c.requires.settled)

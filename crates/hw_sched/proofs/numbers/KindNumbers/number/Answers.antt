@@ -28,4 +28,5 @@ returns-clause-kinds c = λ kinds kind is are.
     (let h = c.in-Some-checked_add.ensures in omega (arith, h))
     (λ other.
     c.in_ok-insert.ensures.updates.0 (key_of other)
-    ∙ ap (λ (same : Bool). if same then Some c.args.self.now.count else number_at c.args.self.now.by_kind.entries other) (ap (λ (key : KindKey). is_eq (compare_keys key (key_of other))) is ∙ tied_kind kind other))
+    ∙ ap (λ (same : Bool). if same then Some c.args.self.now.count else number_at c.args.self.now.by_kind.entries
+    other) (ap (λ (key : KindKey). is_eq (compare_keys key (key_of other))) is ∙ tied_kind kind other))

@@ -14,7 +14,9 @@ use Rattle.mdl_build.proofs.making.Maker.block_by.Goals as goal
 pub index-defaults-requires : goal.index-defaults-requires
 index-defaults-requires c =
     let maker = c.args.self.now in
-    let there = number_below (λ texts. contents_of texts.items) (fallbacks_of (items_of maker)) maker.defaults.items c.requires.maker.defaults c.args.block_type c.number_of.result c.number_of.ensures in
+    let there = number_below (λ texts. contents_of texts.items)
+    (fallbacks_of (items_of maker)) maker.defaults.items c.requires.maker.defaults c.args.block_type
+    c.number_of.result c.number_of.ensures in
     omega (arith, there, maker.defaults.ok.0)
 
 pub read_block-requires-clause-texts : goal.read_block-requires-clause-texts
@@ -22,7 +24,9 @@ read_block-requires-clause-texts c =
     let maker = c.args.self.now in
     ap contents_of c.deref.ensures.value
     ∙ ap (λ texts. contents_of texts.items) c.index-defaults.ensures
-    ∙ at_number (λ texts. contents_of texts.items) (fallbacks_of (items_of maker)) maker.defaults.items c.requires.maker.defaults c.args.block_type c.number_of.result c.number_of.ensures c.index-defaults.result.now
+    ∙ at_number (λ texts. contents_of texts.items)
+    (fallbacks_of (items_of maker)) maker.defaults.items c.requires.maker.defaults c.args.block_type
+    c.number_of.result c.number_of.ensures c.index-defaults.result.now
 
 pub number-requires-clause-within : goal.number-requires-clause-within
 number-requires-clause-within c = λ x e. let h = parent_before (items_of c.args.self.now) c.args.place x (sym c.parent-parent.ensures ∙ e) in omega (arith, h.0, c.requires.block.within)
@@ -43,7 +47,9 @@ returns-clause-ok c =
         has = rw c.in_default.is at c.in_ok-wrong.ensures;
         part =
             c.in_ok-part.ensures
-            ∙ ap (λ (s : Standing). part_of s c.args.block_type c.filter_of.new.settings) (c.standing.ensures ∙ ap (λ (p : Option ℕ). standing_in items p (holder_of items c.args.place)) c.parent-parent.ensures)
+            ∙ ap (λ (s : Standing). part_of s c.args.block_type c.filter_of.new.settings)
+            (c.standing.ensures ∙ ap (λ (p : Option ℕ). standing_in items p (holder_of items c.args.place))
+            c.parent-parent.ensures)
             ∙ c.in_ok-filter.ensures.part (standing_in items (parent_of items c.args.place) (holder_of items c.args.place));
       };
       filter = c.in_ok-filter.ensures.filter ∙ ap (λ (name : List ℕ). filter_of name c.args.block_type c.read_block.new.settings) (sym c.in_ok-name.ensures);

@@ -11,8 +11,14 @@ index-requires c =
 
 pub returns-then-index : goal.returns-then-index
 returns-then-index c =
-    sym (standing_read (items_of c.args.self.now) c.args.place c.args.parent c.in-Some.system c.args.self.now.enabled.items c.index.result.now true (c.is_none.ensures ∙ ap not c.if-is_none.false) (sym c.holder.ensures ∙ c.in-Some.is) c.requires.within c.requires.maker.enabled c.index.ensures c.if-index.true)
+    sym (standing_read (items_of c.args.self.now) c.args.place c.args.parent c.in-Some.system
+    c.args.self.now.enabled.items c.index.result.now true (c.is_none.ensures ∙ ap not c.if-is_none.false)
+    (sym c.holder.ensures ∙ c.in-Some.is) c.requires.within c.requires.maker.enabled c.index.ensures
+    c.if-index.true)
 
 pub returns-else-index : goal.returns-else-index
 returns-else-index c =
-    sym (standing_read (items_of c.args.self.now) c.args.place c.args.parent c.in-Some.system c.args.self.now.enabled.items c.index.result.now false (c.is_none.ensures ∙ ap not c.if-is_none.false) (sym c.holder.ensures ∙ c.in-Some.is) c.requires.within c.requires.maker.enabled c.index.ensures c.if-index.false)
+    sym (standing_read (items_of c.args.self.now) c.args.place c.args.parent c.in-Some.system
+    c.args.self.now.enabled.items c.index.result.now false (c.is_none.ensures ∙ ap not c.if-is_none.false)
+    (sym c.holder.ensures ∙ c.in-Some.is) c.requires.within c.requires.maker.enabled c.index.ensures
+    c.if-index.false)

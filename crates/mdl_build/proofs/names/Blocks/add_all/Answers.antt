@@ -25,7 +25,9 @@ pub add-requires-clause-within : goal.add-requires-clause-within
 add-requires-clause-within c = omega (arith, c.loop-place-test.true, roles_long c.args.layout.now.items.now c.args.roles.now c.requires.roles)
 
 pub add-requires-clause-few : goal.add-requires-clause-few
-add-requires-clause-few c = let no : length c.loop-place.self.places.items ≢ 20000 = λ e. c.if-len-eq-MOST.false (c.len.ensures ∙ c.loop-place.self.places.ok.0 ∙ e) in omega (arith, c.loop-place.self.places.ok.0, no, c.loop-place.invariant.few)
+add-requires-clause-few c = let no : length c.loop-place.self.places.items ≢ 20000 =
+    λ e. c.if-len-eq-MOST.false (c.len.ensures ∙ c.loop-place.self.places.ok.0 ∙ e) in
+    omega (arith, c.loop-place.self.places.ok.0, no, c.loop-place.invariant.few)
 
 pub loop-place-preserved : goal.loop-place-preserved
 loop-place-preserved c = elim c.if-is_block.branch [
@@ -53,7 +55,9 @@ loop-place-preserved c = elim c.if-is_block.branch [
         places =
             ap (λ (b : Blocks). b.places.items) w.self-is
             ∙ c.loop-place.invariant.places
-            ∙ sym (filter_next (λ (other : ℕ). is_block (role_of items other)) place ∙ ap (λ (b : Bool). blocks_before items place ++ cond b (place ∷ []) []) is ∙ append-nil (blocks_before items place));
+            ∙ sym (filter_next (λ (other : ℕ). is_block (role_of items other)) place
+            ∙ ap (λ (b : Bool). blocks_before items place ++ cond b (place ∷ []) []) is
+            ∙ append-nil (blocks_before items place));
         numbered = subst (AreNumbered items) (sym w.self-is) c.loop-place.invariant.numbered;
         few = subst (λ (b : Blocks). length b.places.items ≤ 20000) (sym w.self-is) c.loop-place.invariant.few;
       }

@@ -21,7 +21,9 @@ returns-in-Some-clause-numbered c =
     let here = place (goal.at.returns-in-Some-clause-numbered c).After-copied ∙ c.in-Some.is in
     on_ok_weaker c.put.result
     (λ ends before numbered. subst (Numbered (before ++ c.args.name.now ∷ []) (texts names)) (sym ends)
-    (one-more before (texts names) (texts names) c.args.self.now.numbers.items c.in-Some.number c.args.name.now (known-name names c.args.name c.in-Some.number here) (at-number names c.in-Some.number c.args.name.now here) numbered))
+    (one-more before (texts names) (texts names) c.args.self.now.numbers.items c.in-Some.number c.args.name.now
+    (known-name names c.args.name c.in-Some.number here)
+    (at-number names c.in-Some.number c.args.name.now here) numbered))
     c.put.ensures
 
 pub returns-in-Some-clause-places : goal.returns-in-Some-clause-places
@@ -36,7 +38,9 @@ returns-clause-numbered c =
     on_ok_weaker c.put-3.result
     (λ ends before numbered. subst (λ (all : List (Bor (List ℕ))). Numbered (before ++ c.args.name.now ∷ []) (texts all) c.put-3.new.items.items) (sym c.in_ok-put.ensures)
     (subst (Numbered (before ++ c.args.name.now ∷ []) (texts more)) (sym ends)
-    (one-more before (texts names) (texts more) c.args.self.now.numbers.items c.len-number.result c.args.name.now (new-name names c.args.name none) (ap (slice_get (texts more)) number ∙ last-name names c.args.name) numbered)))
+    (one-more before (texts names) (texts more) c.args.self.now.numbers.items c.len-number.result c.args.name.now
+    (new-name names c.args.name none)
+    (ap (slice_get (texts more)) number ∙ last-name names c.args.name) numbered)))
     c.put-3.ensures
 
 pub returns-clause-places : goal.returns-clause-places
@@ -45,5 +49,7 @@ returns-clause-places c =
     on_ok_weaker c.put-3.result
     (λ ends. subst (λ (all : List (Bor (List ℕ))). HasPlaces all c.insert.new.self) (sym c.in_ok-put.ensures)
     (one-more-place names c.args.name c.args.self.now.by_name c.insert.new.self c.requires (place (goal.at.returns-clause-places c).After-copied ∙ c.in_default.is)
-    (subst (λ (n : ℕ). Updates (λ (x y : Bor (List ℕ)). slice_cmp nat_cmp x.now y.now) c.args.self.now.by_name c.insert.new.self c.args.name (Some n)) (c.len-number.ensures ∙ c.args.self.now.names.ok.0) c.in_ok-insert.ensures.updates)))
+    (subst (λ (n : ℕ). Updates (λ (x y : Bor (List ℕ)). slice_cmp nat_cmp x.now y.now) c.args.self.now.by_name
+    c.insert.new.self c.args.name (Some n))
+    (c.len-number.ensures ∙ c.args.self.now.names.ok.0) c.in_ok-insert.ensures.updates)))
     c.put-3.ensures

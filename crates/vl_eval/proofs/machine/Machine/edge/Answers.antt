@@ -13,14 +13,17 @@ pub capture-requires-clause-within : goal.capture-requires-clause-within
 capture-requires-clause-within c = λ d h.
     let self = c.args.self.now in
     let of = c.requires.ready.plan_is in
-    captures-within c.meaning_by_layer.ensures.value self.source of.sound of.scope of.scope_is self.plan of.plan_is c.as_mut_slice-values.result.now (ap length c.as_mut_slice-values.ensures.value ∙ c.requires.ready.room) d
+    captures-within c.meaning_by_layer.ensures.value self.source of.sound of.scope of.scope_is self.plan of.plan_is
+    c.as_mut_slice-values.result.now (ap length c.as_mut_slice-values.ensures.value ∙ c.requires.ready.room) d
     (subst (λ cs. Contains cs d) c.as_slice.ensures.value h)
 
 pub capture-requires-clause-apart : goal.capture-requires-clause-apart
 capture-requires-clause-apart c = λ d e h k.
     let self = c.args.self.now in
     let of = c.requires.ready.plan_is in
-    captures-apart c.meaning_by_layer.ensures.value self.source of.sound of.scope of.scope_is self.plan of.plan_is d e (subst (λ cs. Contains cs d) c.as_slice.ensures.value h) (subst (λ cs. Contains cs e) c.as_slice.ensures.value k)
+    captures-apart c.meaning_by_layer.ensures.value self.source of.sound of.scope of.scope_is self.plan of.plan_is d
+    e (subst (λ cs. Contains cs d) c.as_slice.ensures.value h)
+    (subst (λ cs. Contains cs e) c.as_slice.ensures.value k)
 
 pub put-requires-clause-within : goal.put-requires-clause-within
 put-requires-clause-within c =
@@ -69,14 +72,17 @@ sweep-requires-clause-begun c =
     let ready = c.requires.ready in
     let of = ready.plan_is in
     constants-settled self.plan.base self.plan.constants self.plan.arranged.ops self.values.items c.put.new.values of.plan_is.constants ready.settled
-    (ops-stay c.meaning_by_layer.ensures.value self.source of.sound of.scope of.scope_is self.plan of.plan_is self.values.items c.capture.new.values c.put.new.values c.args.inputs.now (taken point) (put point))
+    (ops-stay c.meaning_by_layer.ensures.value self.source of.sound of.scope of.scope_is self.plan of.plan_is
+    self.values.items c.capture.new.values c.put.new.values c.args.inputs.now (taken point) (put point))
 
 pub returns-clause-row : goal.returns-clause-row
 returns-clause-row c =
     let points = goal.at.returns-clause-row c in
     let self = c.args.self.now in
     let of = c.requires.ready.plan_is in
-    edge-named c.meaning_by_layer.ensures.value self.source of.sound of.scope of.scope_is self.plan of.plan_is self.values.items c.capture.new.values c.put.new.values c.args.inputs.now (taken points.After-put) (put points.After-put) c.requires.fit
+    edge-named c.meaning_by_layer.ensures.value self.source of.sound of.scope of.scope_is self.plan of.plan_is
+    self.values.items c.capture.new.values c.put.new.values c.args.inputs.now (taken points.After-put)
+    (put points.After-put) c.requires.fit
     (swept points.After-sweep) c.requires.ready.settled c.requires.ready.fits c.requires.ready.still (kept points.After-sweep) (settled points.After-sweep)
 
 pub returns-clause-ready : goal.returns-clause-ready
@@ -89,9 +95,13 @@ returns-clause-ready c =
       plan_is = of;
       room = ap length (is points.After-sweep) ∙ long points.After-sweep ∙ ready.room;
       settled = settled points.After-sweep;
-      fits = edge-fits-named c.meaning_by_layer.ensures.value self.source of.sound of.scope of.scope_is self.plan of.plan_is self.values.items c.capture.new.values c.put.new.values c.args.inputs.now (taken points.After-put) (put points.After-put) c.requires.fit
+      fits = edge-fits-named c.meaning_by_layer.ensures.value self.source of.sound of.scope of.scope_is self.plan
+          of.plan_is self.values.items c.capture.new.values c.put.new.values c.args.inputs.now
+          (taken points.After-put) (put points.After-put) c.requires.fit
           (swept points.After-sweep) ready.settled ready.fits ready.still (kept points.After-sweep) (settled points.After-sweep);
-      still = edge-still-named c.meaning_by_layer.ensures.value self.source of.sound of.scope of.scope_is self.plan of.plan_is self.values.items c.capture.new.values c.put.new.values c.args.inputs.now (taken points.After-put) (put points.After-put) c.requires.fit
+      still = edge-still-named c.meaning_by_layer.ensures.value self.source of.sound of.scope of.scope_is self.plan
+          of.plan_is self.values.items c.capture.new.values c.put.new.values c.args.inputs.now
+          (taken points.After-put) (put points.After-put) c.requires.fit
           (swept points.After-sweep) ready.settled ready.fits ready.still (kept points.After-sweep) (settled points.After-sweep);
     }
 

@@ -15,6 +15,8 @@ returns-in-Ok-first_values-clause-ready c =
       plan_is = of;
       room = first.long;
       settled = first.settled;
-      fits = first-fits-named c.meaning_by_layer.ensures.value c.args.source of.sound of.scope of.scope_is c.in-Ok.plan of.plan_is first.zeros c.in-Ok-first_values.values.items first.none first.kept first.settled;
-      still = first-still-named c.meaning_by_layer.ensures.value c.args.source of.sound of.scope of.scope_is c.in-Ok.plan of.plan_is first.zeros c.in-Ok-first_values.values.items first.none first.kept first.settled;
+      fits = first-fits-named c.meaning_by_layer.ensures.value c.args.source of.sound of.scope of.scope_is
+          c.in-Ok.plan of.plan_is first.zeros c.in-Ok-first_values.values.items first.none first.kept first.settled;
+      still = first-still-named c.meaning_by_layer.ensures.value c.args.source of.sound of.scope of.scope_is
+          c.in-Ok.plan of.plan_is first.zeros c.in-Ok-first_values.values.items first.none first.kept first.settled;
     }

@@ -29,16 +29,37 @@ pub returns-then-is-3 : goal.returns-then-is-3
 unfolding compound_step
 returns-then-is-3 c =
     let frames = c.args.self.now.held.frames in
-    rw (room frames.items c.len.result (c.len.ensures ∙ frames.ok.0) c.if-len-ge-DEEPEST.false, sym c.is.ensures ∙ c.if-is.false, sym c.is-else-is.ensures ∙ c.if-is-2.false, sym c.is-else-is-2.ensures ∙ c.if-is-3.true) c.inside.ensures
+    rw (
+      room frames.items c.len.result (c.len.ensures ∙ frames.ok.0) c.if-len-ge-DEEPEST.false,
+      sym c.is.ensures
+          ∙ c.if-is.false,
+      sym c.is-else-is.ensures ∙ c.if-is-2.false,
+      sym c.is-else-is-2.ensures ∙ c.if-is-3.true,
+    )
+    c.inside.ensures
 
 pub returns-then-is-4 : goal.returns-then-is-4
 unfolding compound_step
 returns-then-is-4 c =
     let frames = c.args.self.now.held.frames in
-    rw (room frames.items c.len.result (c.len.ensures ∙ frames.ok.0) c.if-len-ge-DEEPEST.false, sym c.is.ensures ∙ c.if-is.false, sym c.is-else-is.ensures ∙ c.if-is-2.false, sym c.is-else-is-2.ensures ∙ c.if-is-3.false, sym c.is-else-is-3.ensures ∙ c.if-is-4.true) c.inside-then-is-4.ensures
+    rw (
+      room frames.items c.len.result (c.len.ensures ∙ frames.ok.0) c.if-len-ge-DEEPEST.false,
+      sym c.is.ensures
+          ∙ c.if-is.false,
+      sym c.is-else-is.ensures ∙ c.if-is-2.false,
+      sym c.is-else-is-2.ensures ∙ c.if-is-3.false,
+      sym c.is-else-is-3.ensures ∙ c.if-is-4.true,
+    ) c.inside-then-is-4.ensures
 
 pub returns-else-is-4 : goal.returns-else-is-4
 unfolding compound_step
 returns-else-is-4 c =
     let frames = c.args.self.now.held.frames in
-    rw (room frames.items c.len.result (c.len.ensures ∙ frames.ok.0) c.if-len-ge-DEEPEST.false, sym c.is.ensures ∙ c.if-is.false, sym c.is-else-is.ensures ∙ c.if-is-2.false, sym c.is-else-is-2.ensures ∙ c.if-is-3.false, sym c.is-else-is-3.ensures ∙ c.if-is-4.false) refl
+    rw (
+      room frames.items c.len.result (c.len.ensures ∙ frames.ok.0) c.if-len-ge-DEEPEST.false,
+      sym c.is.ensures
+          ∙ c.if-is.false,
+      sym c.is-else-is.ensures ∙ c.if-is-2.false,
+      sym c.is-else-is-2.ensures ∙ c.if-is-3.false,
+      sym c.is-else-is-3.ensures ∙ c.if-is-4.false,
+    ) refl

@@ -29,16 +29,34 @@ pub returns-then-is-3 : goal.returns-then-is-3
 unfolding step_at item_step
 returns-then-is-3 c =
     let draft = c.args.self.now.draft in
-    rw (sym c.is.ensures ∙ c.if-is.false, room draft.items c.as_slice.result.now draft.most c.as_slice.ensures c.if-as_slice-self.false, sym c.is-else-as_slice-self.ensures ∙ c.if-is-2.false, sym c.is-else-is-2.ensures ∙ c.if-is-3.true) refl
+    rw (
+      sym c.is.ensures ∙ c.if-is.false,
+      room draft.items c.as_slice.result.now draft.most c.as_slice.ensures c.if-as_slice-self.false,
+      sym c.is-else-as_slice-self.ensures ∙ c.if-is-2.false,
+      sym c.is-else-is-2.ensures ∙ c.if-is-3.true,
+    ) refl
 
 pub returns-then-is-4 : goal.returns-then-is-4
 unfolding step_at item_step
 returns-then-is-4 c =
     let draft = c.args.self.now.draft in
-    rw (sym c.is.ensures ∙ c.if-is.false, room draft.items c.as_slice.result.now draft.most c.as_slice.ensures c.if-as_slice-self.false, sym c.is-else-as_slice-self.ensures ∙ c.if-is-2.false, sym c.is-else-is-2.ensures ∙ c.if-is-3.false, sym c.is-else-is-3.ensures ∙ c.if-is-4.true) refl
+    rw (
+      sym c.is.ensures ∙ c.if-is.false,
+      room draft.items c.as_slice.result.now draft.most c.as_slice.ensures c.if-as_slice-self.false,
+      sym c.is-else-as_slice-self.ensures ∙ c.if-is-2.false,
+      sym c.is-else-is-2.ensures ∙ c.if-is-3.false,
+      sym c.is-else-is-3.ensures ∙ c.if-is-4.true,
+    ) refl
 
 pub returns-else-is-4 : goal.returns-else-is-4
 unfolding step_at item_step
 returns-else-is-4 c =
     let draft = c.args.self.now.draft in
-    rw (sym c.is.ensures ∙ c.if-is.false, room draft.items c.as_slice.result.now draft.most c.as_slice.ensures c.if-as_slice-self.false, sym c.is-else-as_slice-self.ensures ∙ c.if-is-2.false, sym c.is-else-is-2.ensures ∙ c.if-is-3.false, sym c.is-else-is-3.ensures ∙ c.if-is-4.false) (c.expected.ensures c.args.self.now.draft c.args.self.now.held)
+    rw (
+      sym c.is.ensures ∙ c.if-is.false,
+      room draft.items c.as_slice.result.now draft.most c.as_slice.ensures c.if-as_slice-self.false,
+      sym c.is-else-as_slice-self.ensures ∙ c.if-is-2.false,
+      sym c.is-else-is-2.ensures ∙ c.if-is-3.false,
+      sym c.is-else-is-3.ensures ∙ c.if-is-4.false,
+    )
+    (c.expected.ensures c.args.self.now.draft c.args.self.now.held)

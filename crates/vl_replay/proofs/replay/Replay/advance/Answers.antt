@@ -18,6 +18,8 @@ returns-clause-stands c =
     record {
       few = stands.few;
       wide = ap length (with_items_is replay.bits c.play_sample.new.bits many) ∙ c.play_sample.ensures.wide;
-      played = subst (λ (cells : List ℤ). IsPlayed score score.window ((c.args.sample + 1 + score.delay) * score.cycles) c.play_sample.new.machine cells) (sym (with_items_is replay.cells c.play_sample.new.cells long))
+      played = subst (λ (cells : List ℤ). IsPlayed score score.window
+          ((c.args.sample + 1 + score.delay) * score.cycles) c.play_sample.new.machine cells)
+          (sym (with_items_is replay.cells c.play_sample.new.cells long))
           (subst (λ (clocks : ℕ). IsPlayed score score.window clocks c.play_sample.new.machine c.play_sample.new.cells) (more-clocks c.args.sample score.delay score.cycles) later);
     }

@@ -14,7 +14,9 @@ row-of replay sample start outputs cells many begins is =
     λ i. take ((all ∙ many) i) (drop ((begins ∙ ap (λ k. sample % replay.score.window * k) many) i) (is i))
 
 -- and stands in it
-row-within : (replay : Replay) (sample : ℕ) → StandsBefore replay sample → (cells : List ℤ) (start outputs : ℕ) → cells ≡ replay.cells.items → outputs ≡ length replay.score.samplers.items → start + outputs ≤ replay.score.window * outputs → start + outputs ≤ length cells
+row-within : (replay : Replay) (sample : ℕ) → StandsBefore replay sample → (cells : List ℤ) (start outputs : ℕ)
+    → cells ≡ replay.cells.items → outputs ≡ length replay.score.samplers.items
+    → start + outputs ≤ replay.score.window * outputs → start + outputs ≤ length cells
 row-within replay sample stands cells start outputs is many within =
     let long = ap length is ∙ stands.played.have.long ∙ ap (λ (n : ℕ). replay.score.window * n) (sym (many ∙ samplers-many (source_of replay.machine) replay.score stands.played.score_is)) in
     omega (arith, long, within)
@@ -24,8 +26,11 @@ returns-clause-sampled c = λ table is.
     let replay = c.args.self.now in
     let stands = c.requires.stands in
     let played = stands.played in
-    row-of replay c.args.sample c.start_of-start.result c.len-outputs.result c.deref.result.now (c.len-outputs.ensures ∙ replay.score.samplers.ok.0) c.start_of-start.ensures.start c.deref.ensures.value
-    ∙ shown-is c.one_run.ensures.one c.steps_run.ensures (source_of replay.machine) replay.score replay.score.window replay.score.delay c.args.sample played.score_is played.score_is.delay played.score_is.window played.rows replay.cells.items
+    row-of replay c.args.sample c.start_of-start.result c.len-outputs.result c.deref.result.now
+    (c.len-outputs.ensures ∙ replay.score.samplers.ok.0) c.start_of-start.ensures.start c.deref.ensures.value
+    ∙ shown-is c.one_run.ensures.one c.steps_run.ensures
+    (source_of replay.machine) replay.score replay.score.window replay.score.delay c.args.sample played.score_is
+    played.score_is.delay played.score_is.window played.rows replay.cells.items
     c.requires.within played.steps played.have table is
 
 pub returns-clause-long : goal.returns-clause-long
@@ -33,8 +38,11 @@ returns-clause-long c =
     let replay = c.args.self.now in
     let stands = c.requires.stands in
     let played = stands.played in
-    ap length (row-of replay c.args.sample c.start_of-start.result c.len-outputs.result c.deref.result.now (c.len-outputs.ensures ∙ replay.score.samplers.ok.0) c.start_of-start.ensures.start c.deref.ensures.value)
-    ∙ shown-long c.one_run.ensures.one c.steps_run.ensures (source_of replay.machine) replay.score replay.score.window replay.score.delay c.args.sample played.score_is played.score_is.delay played.score_is.window played.rows replay.cells.items
+    ap length (row-of replay c.args.sample c.start_of-start.result c.len-outputs.result c.deref.result.now
+    (c.len-outputs.ensures ∙ replay.score.samplers.ok.0) c.start_of-start.ensures.start c.deref.ensures.value)
+    ∙ shown-long c.one_run.ensures.one c.steps_run.ensures
+    (source_of replay.machine) replay.score replay.score.window replay.score.delay c.args.sample played.score_is
+    played.score_is.delay played.score_is.window played.rows replay.cells.items
     c.requires.within played.steps played.have
 
 pub start_of-start-requires-clause-some : goal.start_of-start-requires-clause-some
@@ -49,17 +57,23 @@ slice_bounds-result-start c = omega arith
 pub slice_bounds-result-end : goal.slice_bounds-result-end
 slice_bounds-result-end c =
     let replay = c.args.self.now in
-    row-within replay (c.args.sample + 1) c.requires.stands c.deref.result.now c.start_of-start.result c.len-outputs.result c.deref.ensures.value (c.len-outputs.ensures ∙ replay.score.samplers.ok.0) c.start_of-start.ensures.within
+    row-within replay (c.args.sample + 1) c.requires.stands c.deref.result.now c.start_of-start.result
+    c.len-outputs.result c.deref.ensures.value
+    (c.len-outputs.ensures ∙ replay.score.samplers.ok.0) c.start_of-start.ensures.within
 
 pub offset_bounds-deref-start : goal.offset_bounds-deref-start
 offset_bounds-deref-start c =
     let replay = c.args.self.now in
-    let within = row-within replay (c.args.sample + 1) c.requires.stands c.deref.result.now c.start_of-start.result c.len-outputs.result c.deref.ensures.value (c.len-outputs.ensures ∙ replay.score.samplers.ok.0) c.start_of-start.ensures.within in
+    let within = row-within replay (c.args.sample + 1) c.requires.stands c.deref.result.now c.start_of-start.result
+    c.len-outputs.result c.deref.ensures.value
+    (c.len-outputs.ensures ∙ replay.score.samplers.ok.0) c.start_of-start.ensures.within in
     let low : c.start_of-start.result ≤ length c.deref.result.now = omega (arith, within) in
     omega arith
 
 pub overflow_add-result : goal.overflow_add-result
 overflow_add-result c =
     let replay = c.args.self.now in
-    let within = row-within replay (c.args.sample + 1) c.requires.stands c.deref.result.now c.start_of-start.result c.len-outputs.result c.deref.ensures.value (c.len-outputs.ensures ∙ replay.score.samplers.ok.0) c.start_of-start.ensures.within in
+    let within = row-within replay (c.args.sample + 1) c.requires.stands c.deref.result.now c.start_of-start.result
+    c.len-outputs.result c.deref.ensures.value
+    (c.len-outputs.ensures ∙ replay.score.samplers.ok.0) c.start_of-start.ensures.within in
     omega arith
