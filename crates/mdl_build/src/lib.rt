@@ -3,7 +3,8 @@
 //! `specs/Sections.antt` and `specs/Roles.antt` say which sections count, `specs/Lookup.antt` where a
 //! parameter's value is found, `specs/Settings.antt` what it says, `specs/Parts.antt` what a block
 //! becomes, `specs/Rules.antt` when a rule is broken and how that is told, and `specs/Nested.antt`
-//! which blocks and lines a tree has. `library.rt` and `specs/Library.antt` are the one table of block
+//! which blocks and lines a tree has, `specs/Expanded.antt` those in which each filter is taken apart.
+//! `library.rt` and `specs/Library.antt` are the one table of block
 //! types.
 #![tactic(auto)]
 
