@@ -4,7 +4,7 @@ pub mod Join
 pub mod LastGroup
 pub mod Lines
 pub mod Meet
-pub mod Order
+pub mod OrderOrLoop
 pub mod Outcome
 pub mod Pop
 pub mod SearchSteps

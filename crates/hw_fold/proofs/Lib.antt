@@ -1,6 +1,6 @@
-pub mod Fold
 pub mod Marks
 pub mod Numbers
 pub mod Repeats
 pub mod Result
 pub mod Standings
+pub mod WholeFold

@@ -17,7 +17,7 @@ use Rattle.hw_renumber.specs.Sound.{RenumberedEmits, RenumberedRuns}
 use Rattle.hw_fold.specs.inner.Fold.{AreSettled, CanFold, IsFolded}
 use Rattle.hw_fold.specs.inner.Pins.{IsPinned, KeepsMarks, is_marked}
 use Rattle.hw_fold.specs.inner.Roots.{fold_of}
-use Rattle.hw_fold.proofs.Fold.{can, represents}
+use Rattle.hw_fold.proofs.WholeFold.{can, represents}
 use Rattle.hw_fold.proofs.Numbers.{places-below, places-long}
 
 pub labels-below : (netlist : Circuit) → IsEmittable netlist → All (λ (label : NetLabel). label.net < length netlist.nets) netlist.labels

@@ -1,4 +1,4 @@
-pub mod Chain
+pub mod ChainLines
 pub mod Hits
 pub mod LineEnds
 pub mod Parts

@@ -16,7 +16,7 @@ use Rattle.hw_sched.proofs.DepthLaw.{period_is}
 use Rattle.hw_sched.proofs.SlotNumbers.{taken_from}
 use Rattle.hw_sched.proofs.Paths.{take_length}
 use Rattle.hw_sched.proofs.Service.{same_period}
-use Rattle.hw_sched.proofs.Depths.{greatest_none, greatest_either, line_counts, line_skips}
+use Rattle.hw_sched.proofs.BlockDepths.{greatest_none, greatest_either, line_counts, line_skips}
 use Rattle.math_list.proofs.Places.{get_drop}
 
 -- ---- what the code reads

@@ -1,8 +1,8 @@
 mod Bases
+mod BlockDepths
 mod CellNumbers
 mod ChainExample
 mod DepthLaw
-mod Depths
 mod DiagramSlots
 mod Edges
 mod InTime

@@ -7,7 +7,7 @@ use Rattle.dg_model.specs.declared.diagram.Edge.{Edge}
 use Rattle.dg_model.specs.Wired.{StandsBefore}
 use Rattle.dg_model.specs.Wires.{enters}
 use Rattle.hw_sched.specs.inner.Greatest.{IsFirstInto}
-use Rattle.hw_sched.proofs.Depths.{first_rises}
+use Rattle.hw_sched.proofs.BlockDepths.{first_rises}
 
 find_none : {A : Type 0} (p : A → Bool) (xs : List A) → ((k : ℕ) (x : A) → slice_get xs k ≡ Some x → p x ≡ false) → find p xs ≡ None
 find_none p [] none = refl

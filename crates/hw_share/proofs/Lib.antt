@@ -11,4 +11,4 @@ pub mod OperationLists
 pub mod Products
 pub mod Ready
 pub mod ResultRegisters
-pub mod Units
+pub mod UnitRows

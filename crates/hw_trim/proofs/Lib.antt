@@ -2,4 +2,4 @@ pub mod MarkCounts
 pub mod Marks
 pub mod NoProducts
 pub mod Result
-pub mod Trim
+pub mod WholeTrim

@@ -16,7 +16,7 @@ use Rattle.hw_renumber.specs.Sound.{CanStay, RenumberedEmits, RenumberedRuns}
 use Rattle.hw_trim.specs.inner.MarkPlaces.{ArePlaces, kept_of}
 use Rattle.hw_trim.specs.inner.Marks.{IsNeeded}
 use Rattle.hw_trim.proofs.MarkCounts.{kept-is}
-use Rattle.hw_trim.proofs.Trim.{can, drops}
+use Rattle.hw_trim.proofs.WholeTrim.{can, drops}
 
 module _ (old : Circuit) (runs : IsNetlist old) (emits : IsEmittable old) (marks : List Bool)
     (needed : IsNeeded old marks) (kept list : List ℕ) (kept-are : kept ≡ kept_of marks (length marks))

@@ -2,7 +2,7 @@ use Rattle.std.proofs.Common.{◌<◌, length, ap, sym, subst, arith}
 use Rattle.dg_sort.specs.declared.search.Mark.TheVariants.{Unmet}
 use Rattle.dg_sort.specs.inner.Search.{Walk, seen}
 use Rattle.dg_sort.specs.inner.State.{IsState}
-use Rattle.dg_sort.proofs.Order.{found}
+use Rattle.dg_sort.proofs.OrderOrLoop.{found}
 use Rattle.dg_sort.proofs.SearchSteps.{begun_state, mark_is, roots_more, roots_same}
 use Rattle.dg_sort.proofs.search.search_all.Goals.{in-Unmet+in_ok-search_from, in_default, In-loop-root}
 use Rattle.dg_sort.proofs.search.search_all.Goals as goal

@@ -1,6 +1,6 @@
 use Rattle.std.proofs.Common.{rules, ℕ, ◌*◌, ◌<◌, ◌≤◌, arith}
 use Rattle.std.proofs.Common.{mul-le-mul_right}
-use Rattle.hw_lines.proofs.Chain.{room}
+use Rattle.hw_lines.proofs.ChainLines.{room}
 use Rattle.hw_build.proofs.pipelines.last_slot.Goals as goal
 
 some : (period cycles : ℕ) → 0 < period → 1 ≤ cycles → 1 ≤ period * cycles

@@ -1,6 +1,6 @@
 use Rattle.std.proofs.Common.{◌≡◌, ◌++◌, ◌∷◌, [], sym, ◌∙◌, arith}
 use Rattle.std.proofs.lemmas.Result.{on_ok_weaker}
-use Rattle.hw_lines.proofs.Chain.{known-end, new-end}
+use Rattle.hw_lines.proofs.ChainLines.{known-end, new-end}
 use Rattle.hw_lines.proofs.lines.end_at.Goals as goal
 
 pub reader_of-reader-requires : goal.reader_of-reader-requires

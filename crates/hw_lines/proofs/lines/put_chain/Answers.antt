@@ -4,7 +4,7 @@ use Rattle.hw_net.specs.Frames.{register_count}
 use Rattle.hw_lines.specs.declared.source.Source.{Source}
 use Rattle.hw_lines.specs.declared.source.Use.{Use}
 use Rattle.hw_lines.specs.Chain.{most_frames, different, parted_frames}
-use Rattle.hw_lines.proofs.Chain.{room, most-of, taps-can-hold, done-start, done-more, done-answers, done-chained}
+use Rattle.hw_lines.proofs.ChainLines.{room, most-of, taps-can-hold, done-start, done-more, done-answers, done-chained}
 use Rattle.hw_lines.proofs.lines.put_chain.Goals as goal
 
 pub end_at-requires : goal.end_at-requires

@@ -1,7 +1,7 @@
 use Rattle.std.proofs.Common.{true, false, sym, ◌∙◌, arith}
 use Rattle.dg_model.specs.Attributes.{attributes_of}
 use Rattle.hw_sched.proofs.Items.{tested, control_one, control_apart}
-use Rattle.hw_sched.proofs.Depths.{control_there}
+use Rattle.hw_sched.proofs.BlockDepths.{control_there}
 use Rattle.hw_sched.proofs.deepening.control_best.Goals as goal
 
 pub returns-then-is_same_period : goal.returns-then-is_same_period

@@ -6,7 +6,7 @@ use Rattle.hw_sched.specs.inner.Greatest.{IsNextDepth}
 use Rattle.math_list.proofs.Places.{held}
 use Rattle.hw_sched.proofs.Lists.{zero_at}
 use Rattle.hw_sched.proofs.Items.{item_read}
-use Rattle.hw_sched.proofs.Depths.{depths_more, depths_end}
+use Rattle.hw_sched.proofs.BlockDepths.{depths_more, depths_end}
 use Rattle.hw_sched.proofs.deepening.depths.Goals as goal
 
 pub loop-place-init : goal.loop-place-init

@@ -3,7 +3,7 @@ use Rattle.dg_model.specs.Attributes.{attributes_of}
 use Rattle.dg_model.specs.LatencyEdges.{LatencyEdge, asks_ever}
 use Rattle.dg_model.specs.Library.{row_of}
 use Rattle.hw_sched.specs.Answer.{timing_of}
-use Rattle.hw_sched.proofs.Depths.{control_parts}
+use Rattle.hw_sched.proofs.BlockDepths.{control_parts}
 use Rattle.hw_sched.specs.inner.Counts.{capped, edge_of, line_at}
 use Rattle.hw_sched.proofs.RegisterCounts.{control_none, control_some}
 use Rattle.hw_sched.proofs.Widths.{control_line_there}

@@ -5,7 +5,7 @@ use Rattle.dg_model.specs.Attributes.{attributes_of}
 use Rattle.dg_model.specs.Wired.{StandsBefore}
 use Rattle.hw_sched.specs.inner.Greatest.{IsGreatest, IsLineFrom}
 use Rattle.hw_sched.proofs.Items.{rest_past, rest_read, tested, next_counts, next_skips, first_as}
-use Rattle.hw_sched.proofs.Depths.{lines_begin, lines_stop, lines_end, from_there}
+use Rattle.hw_sched.proofs.BlockDepths.{lines_begin, lines_stop, lines_end, from_there}
 use Rattle.hw_sched.proofs.lines.best_of_lines.Goals.{Else-edge-place, then-is_same_period, else-is_same_period}
 use Rattle.hw_sched.proofs.lines.best_of_lines.Goals as goal
 

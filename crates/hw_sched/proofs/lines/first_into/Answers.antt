@@ -2,7 +2,7 @@ use Rattle.std.proofs.Common.{rules, of_calls}
 use Rattle.std.specs.Prelude.{nat_lt}
 use Rattle.std.proofs.lemmas.Fn.{always_returns_same}
 use Rattle.dg_model.specs.declared.diagram.Edge.{Edge}
-use Rattle.hw_sched.proofs.Depths.{parted, first_is}
+use Rattle.hw_sched.proofs.BlockDepths.{parted, first_is}
 use Rattle.hw_sched.proofs.lines.first_into.Goals as goal
 
 pub returns : goal.returns

@@ -1,6 +1,6 @@
 use Rattle.std.proofs.Common.{◌≡◌, arith}
 use Rattle.hw_share.proofs.Ready.{ends-ready}
-use Rattle.hw_share.proofs.Units.{can-keep, shared-part}
+use Rattle.hw_share.proofs.UnitRows.{can-keep, shared-part}
 use Rattle.hw_share.proofs.sharing.units.Goals as goal
 
 pub multipliers-requires : goal.multipliers-requires
