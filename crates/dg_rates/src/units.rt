@@ -70,7 +70,7 @@ pub fn is_less(period: Decimal, other: Decimal) -> bool
 
 /// How many times the second number the first is, where it is a whole number of times and at most
 /// 4096.
-#[tactic(auto, using(crate::proofs::Aligning::no_times))]
+#[tactic(auto, using(crate::proofs::OneUnit::no_times))]
 fn quotient(number: u128, divisor: u128) -> Option<u32>
     requires { 0 < divisor }
     ensures some { IfSome result (λ times. IsTimes number divisor times) }
