@@ -45,7 +45,7 @@ impl Simulation {
 }
 
 /// The columns of a diagram, where they can be numbered by 32 bits.
-#[tactic(auto, unfolding(crate::specs::inner::Making::HasColumns))]
+#[tactic(auto, unfolding(crate::specs::inner::Columns::HasColumns))]
 fn columns_of(alloc: Global, checked: &Checked) -> Result<RootColumns, OutOfMemory>
     ensures columns { IfOk result (HasColumns checked.now.diagram) }
     ensures input_periods { IfOk result (λ columns. All
@@ -69,7 +69,7 @@ fn columns_of(alloc: Global, checked: &Checked) -> Result<RootColumns, OutOfMemo
 }
 
 /// The response of a diagram to the rows of its stimulus, before its first sample.
-#[tactic(auto, unfolding(crate::specs::inner::Making::HasColumns))]
+#[tactic(auto, unfolding(crate::specs::inner::Columns::HasColumns))]
 fn responding_to(
     alloc: Global,
     checked: &Checked,
