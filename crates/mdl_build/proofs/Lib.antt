@@ -4,6 +4,7 @@ pub mod BlockPlaces
 pub mod CountLemmas
 pub mod Ends
 mod Examples
+mod ExpandedFilters
 pub mod ExtentLemmas
 pub mod Fillings
 mod FilterEdges

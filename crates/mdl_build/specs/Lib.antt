@@ -1,6 +1,7 @@
 pub mod Blocks
 pub mod Expanded
 pub mod Extents
+pub mod Filters
 pub mod Laws
 pub mod Library
 pub mod Lines

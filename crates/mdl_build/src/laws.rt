@@ -1,4 +1,5 @@
 //! What the definitions together say. Each law is a function that does nothing.
+ghost use Rattle.mdl_build.specs.Filters.{FiltersStand};
 ghost use Rattle.mdl_build.specs.Laws.{FaultIsOne, NestedIsNotBroken, NestedIsOne, NestedIsThere};
 
 /// A tree has at most one list of blocks and lines.
@@ -29,5 +30,13 @@ pub fn nested_is_there()
     mdl_values::values_are_one();
     fir_block::are_sound_blocks();
     fir_block::names_differ();
+    fir_block::blocks_are_counted();
+}
+
+/// Each filter of a tree has its blocks and lines among those of the tree.
+pub fn filters_stand()
+    ensures { FiltersStand }
+{
+    mdl_values::values_are_one();
     fir_block::blocks_are_counted();
 }
