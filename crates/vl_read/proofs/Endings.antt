@@ -1,5 +1,5 @@
 -- Each beginning of a text can be ended, so that the whole is one of a module.
-use Rattle.std.proofs.Common.{◌≡◌, ℕ, zero, suc, Bool, true, false, cond, List, [], ◌∷◌, ◌++◌, Some, None, refl, sym, ◌∙◌, ap, subst, codes, option_and_then}
+use Rattle.std.proofs.Common.{◌≡◌, ℕ, zero, suc, Bool, true, false, cond, List, [], ◌∷◌, ◌++◌, Some, None, refl, sym, ◌∙◌, ap, subst, codes}
 use Rattle.vl_ast.specs.declared.expressions.Sized.{Sized}
 use Rattle.vl_ast.specs.declared.modules.Attr.{Attr}
 use Rattle.vl_ast.specs.declared.modules.Port.{Port}
@@ -20,7 +20,7 @@ use Rattle.vl_read.specs.declared.places.Draft.{Draft}
 use Rattle.vl_read.specs.declared.places.HeadSpot.{HeadSpot}
 use Rattle.vl_read.specs.declared.places.HeadSpot.TheVariants.{Event, OpenEvent, Posedge, Clock, CloseEvent, Begin, Test, OpenTest, Reset, CloseTest}
 use Rattle.vl_read.specs.inner.Lexemes.{class_of, extends, kind_of, dec_of, sized_of, Move, move, moved, lexemes_from}
-use Rattle.vl_read.specs.inner.Turns.{IsBeyond, feed, ahead}
+use Rattle.vl_read.specs.inner.Turns.{IsBeyond, feed}
 use Rattle.vl_read.specs.inner.Plain.{parse, start, head_word, after_head, step, attr_step, net_item, declared, net_step, goal_step, spot_step, step_at}
 use Rattle.vl_read.specs.inner.LexemeSteps.{parser_at, goes}
 use Rattle.vl_read.proofs.LexemeKinds.{name_kind}
@@ -43,7 +43,7 @@ done_ends draft = record {
   same = refl;
 }
 
-items_end : (draft : Draft) → CanEnd (parser_at draft Items)
+pub items_end : (draft : Draft) → CanEnd (parser_at draft Items)
 unfolding step step_at class_of
 items_end draft = by_lexeme _ _ (codes "endmodule") (a_key _ refl) refl (done_ends draft)
 
@@ -270,7 +270,7 @@ attr_ends draft of_port attrs More = more_ends draft of_port attrs
 
 -- each place
 
-place_ends : (draft : Draft) (place : Place) → IsLive place → CanEnd (parser_at draft place)
+pub place_ends : (draft : Draft) (place : Place) → IsLive place → CanEnd (parser_at draft place)
 place_ends draft Start h = start_ends draft
 place_ends draft (Attributes of_port attrs spot) h = attr_ends draft of_port attrs spot
 place_ends draft Title h = title_ends draft
@@ -321,12 +321,12 @@ comment_read LineComment bytes h = silent LineComment Between [] [] 10 bytes ref
 comment_read BlockComment bytes h = silent BlockComment Star [] [] 42 (47 ∷ bytes) refl ∙ silent Star Between [] [] 47 bytes refl
 comment_read Star bytes h = silent Star Between [] [] 47 bytes refl
 
--- bytes that were read go on to a text of a module, where they end neither in a word nor in a mark
-pub endable : (most : ℕ) (lexemes : List (List ℕ)) (parser : Parser) (mode : Mode) → feed (start most) lexemes ≡ Some parser → IsBeyond mode →
-    (rest : List ℕ) × (m : Module) × (ahead parser mode [] rest ≡ Some m)
-endable most lexemes parser mode e beyond =
-    let end = ended most lexemes parser e in
-    (comment_end mode ++ spaced end.0, end.1, ap (option_and_then (parse parser)) (comment_read mode (spaced end.0) beyond ∙ divided end.0 end.2) ∙ end.3)
+-- bytes that give these lexemes, behind what ends neither in a word nor in a mark
+abbrev pub end_bytes : Mode → List (List ℕ) → List ℕ
+end_bytes mode more = comment_end mode ++ spaced more
+
+pub end_divided : (mode : Mode) (more : List (List ℕ)) → IsBeyond mode → AllLexemes more → lexemes_from mode [] (end_bytes mode more) ≡ Some more
+end_divided mode more beyond all = comment_read mode (spaced more) beyond ∙ divided more all
 
 same_end : (lexemes : List (List ℕ)) (mode : Mode) (next : Move) → moved lexemes mode [] ≡ Some next → IsBeyond mode → IsBeyond next.mode × (next.lexeme ≡ [])
 same_end lexemes mode next e h =

@@ -1,5 +1,6 @@
 -- Each expression is read from what is written for its tokens.
-use Rattle.std.proofs.Common.{◌≡◌, ℕ, ◌+◌, ◌≤◌, true, false, cond, List, [], ◌∷◌, ◌++◌, length, Option, Some, refl, sym, ◌∙◌, ap, subst, codes, arith, length-append, option_and_then, bytes_eq}
+use Rattle.std.proofs.Common.{◌≡◌, ℕ, ◌+◌, ◌≤◌, Bool, true, false, cond, List, [], ◌∷◌, ◌++◌, length, Option, Some, refl, sym, ◌∙◌, ap, subst, codes, arith, length-append, bytes_eq}
+use Rattle.std.proofs.lemmas.Bool.{false≢true}
 use Rattle.vl_ast.specs.declared.expressions.Sized.{Sized}
 use Rattle.vl_ast.specs.declared.expressions.Expr.{Expr}
 use Rattle.vl_ast.specs.declared.expressions.Expr.TheOpen.{Expr-F}
@@ -10,13 +11,13 @@ use Rattle.vl_ast.specs.Grammar.{tokens_step, expr_tokens, depth, is_filled}
 use Rattle.vl_read.specs.declared.scan.Kind.TheVariants.{Name, Constant}
 use Rattle.vl_read.specs.declared.places.Frame.{Frame}
 use Rattle.vl_read.specs.declared.places.Frame.TheVariants.{InConcat, InLeft}
-use Rattle.vl_read.specs.inner.Places.{Spot, Goal, Parser}
+use Rattle.vl_read.specs.inner.Places.{Spot, Goal, Place, Parser}
 use Rattle.vl_read.specs.inner.Places.Spot.{Operand, Opened, Braced, Value}
 use Rattle.vl_read.specs.inner.Places.Place.{Expression}
 use Rattle.vl_read.specs.declared.places.Draft.{Draft}
 use Rattle.vl_read.specs.inner.Lexemes.{kind_of, dec_of, sized_of}
-use Rattle.vl_read.specs.inner.Plain.{parse, step, innermost, innermost_of, indexed, value_step, frame_step, name_of, attr_step, declared, net_step, compound_step, operand_step, unary_or_left}
-use Rattle.vl_read.specs.inner.Plain.{opened_step, braced_step, left_step, goal_step, spot_step, item_step, step_at}
+use Rattle.vl_read.specs.inner.Plain.{step, innermost, innermost_of, indexed, value_step, frame_step, name_of, attr_step, declared, net_step, compound_step, operand_step, unary_or_left, opened_step}
+use Rattle.vl_read.specs.inner.Plain.{braced_step, left_step, goal_step, spot_step, item_step, step_at}
 use Rattle.vl_read.specs.inner.LexemeSteps.{parser_at}
 use Rattle.vl_read.proofs.LexemeKinds.{name_kind, based_kind}
 use Rattle.vl_read.proofs.Layers.{by_layers}
@@ -97,21 +98,29 @@ abbrev pub IsRead : Expr → Type 0
 IsRead e = (draft : Draft) (goal : Goal) (frames : List Frame) (tokens : List Token) (lexemes : List (List ℕ)) → depth e + length frames ≤ 256 → is_filled e ≡ true →
     Writes (expr_tokens e ++ tokens) lexemes → Reads (at draft goal frames Operand) lexemes (at draft goal frames (Value e)) tokens
 
-same_parse : (from other : Parser) (lexemes more : List (List ℕ)) (lexeme : List ℕ) → lexemes ≡ lexeme ∷ more → step from lexeme ≡ step other lexeme → parse from lexemes ≡ parse other lexemes
-same_parse from other lexemes more lexeme split e =
-    ap (parse from) split ∙ ap (λ o. option_and_then (λ next. parse next more) o) e ∙ sym (ap (parse other) split)
+-- whether an operand was read
+abbrev is_value : Spot → Bool
+is_value (Value value) = true
+is_value spot = false
+
+abbrev at_value : Place → Bool
+at_value (Expression goal frames spot) = is_value spot
+at_value place = false
+
+unread : {draft other : Draft} {goal goal' : Goal} {frames frames' : List Frame} {value : Expr} → at draft goal frames Operand ≡ at other goal' frames' (Value value) → ⊥
+unread h = false≢true (ap (λ (p : Parser). at_value p.place) h)
 
 -- after `(`, and after `{`
 pub opened_read : (e : Expr) → IsRead e → (draft : Draft) (goal : Goal) (frames : List Frame) (tokens : List Token) (lexemes : List (List ℕ)) → depth e + 1 + length frames ≤ 256 → is_filled e ≡ true →
     Writes (expr_tokens e ++ tokens) lexemes → Reads (at draft goal frames Opened) lexemes (at draft goal (frames ++ InLeft ∷ []) (Value e)) tokens
 opened_read e read draft goal frames tokens lexemes deep filled w =
     let first = first_lexeme e tokens lexemes w in
-    same_start _ _ _ lexemes tokens (same_parse _ _ lexemes first.1 first.0 first.2 (starts_opened draft goal frames first.0 first.3))
+    same_start _ _ _ lexemes first.1 first.0 tokens first.2 (starts_opened draft goal frames first.0 first.3) (λ h. unread h)
     (read draft goal (frames ++ InLeft ∷ []) tokens lexemes (omega (arith, length-append frames (InLeft ∷ []))) filled w)
 
 pub braced_read : (e : Expr) → IsRead e → (draft : Draft) (goal : Goal) (frames : List Frame) (tokens : List Token) (lexemes : List (List ℕ)) → depth e + 1 + length frames ≤ 256 → is_filled e ≡ true →
     Writes (expr_tokens e ++ tokens) lexemes → Reads (at draft goal frames Braced) lexemes (at draft goal (frames ++ InConcat [] ∷ []) (Value e)) tokens
 braced_read e read draft goal frames tokens lexemes deep filled w =
     let first = first_lexeme e tokens lexemes w in
-    same_start _ _ _ lexemes tokens (same_parse _ _ lexemes first.1 first.0 first.2 (starts_braced draft goal frames first.0 first.3))
+    same_start _ _ _ lexemes first.1 first.0 tokens first.2 (starts_braced draft goal frames first.0 first.3) (λ h. unread h)
     (read draft goal (frames ++ InConcat [] ∷ []) tokens lexemes (omega (arith, length-append frames (InConcat [] ∷ []))) filled w)

@@ -21,8 +21,8 @@ use Rattle.vl_read.specs.declared.places.Draft.{Draft}
 use Rattle.vl_read.specs.declared.places.HeadSpot.{HeadSpot}
 use Rattle.vl_read.specs.declared.places.HeadSpot.TheVariants.{Event, OpenEvent, Posedge, Clock, CloseEvent, Begin, Test, OpenTest, Reset, CloseTest}
 use Rattle.vl_read.specs.inner.Lexemes.{kind_of, dec_of, sized_of}
-use Rattle.vl_read.specs.inner.Plain.{head_word, after_head, step, parse, name_of, goal_step, net_item, declared, item_step, attr_step, net_step, compound_step, operand_step, unary_or_left}
-use Rattle.vl_read.specs.inner.Plain.{opened_step, braced_step, left_step, frame_step, spot_step, step_at}
+use Rattle.vl_read.specs.inner.Plain.{head_word, after_head, step, name_of, goal_step, net_item, declared, item_step, attr_step, net_step, compound_step, operand_step, unary_or_left, opened_step}
+use Rattle.vl_read.specs.inner.Plain.{braced_step, left_step, frame_step, spot_step, step_at}
 use Rattle.vl_read.specs.inner.LexemeSteps.{parser_at, goes}
 use Rattle.vl_read.proofs.Expressions.{at, no_index}
 use Rattle.vl_read.proofs.Forms.{expression_read}
@@ -31,7 +31,7 @@ use Rattle.vl_read.proofs.TokenReader.{Writes, Reads, writes_as, next, sign, key
 use Rattle.vl_read.proofs.ModuleTokens.{item_word, declaration_is, assign_is, always_tail, always_is, condition_is}
 use Rattle.vl_read.proofs.PortReader.{net_read}
 
-abbrev with_item : Draft → ModItem → Draft
+abbrev pub with_item : Draft → ModItem → Draft
 with_item draft item = record draft { items = draft.items ++ item ∷ [] }
 
 item_net : (draft : Draft) (is_reg : Bool) → length draft.items < draft.most → step (parser_at draft Items) (item_word is_reg) ≡ Some (parser_at draft (Net (OfItem is_reg) Signed))
@@ -71,7 +71,7 @@ whole_read : (draft : Draft) (goal : Goal) (e : Expr) (tokens : List Token) (lex
     Reads (at draft goal [] Operand) lexemes (at draft goal [] (Value e)) tokens
 whole_read draft goal e tokens lexemes is w = expression_read e draft goal [] tokens lexemes (omega (arith, is.0)) is.1 w
 
-abbrev IsItemRead : ModItem → List Token → Type 0
+abbrev pub IsItemRead : ModItem → List Token → Type 0
 IsItemRead item written = (draft : Draft) (tokens : List Token) (lexemes : List (List ℕ)) → length draft.items < draft.most → Writes (written ++ tokens) lexemes →
     Reads (parser_at draft Items) lexemes (parser_at (with_item draft item) Items) tokens
 
@@ -196,7 +196,7 @@ always_read n first condition e written is draft tokens lexemes room w =
     (λ l10 w10. next _ (parser_at draft (End item)) _ l10 _ tokens (sign _ _ l10 (codes ";") _ (goal_read draft (Next c) e (codes ";") refl) w10)
     (λ l11 w11. key _ _ l11 (codes "end") tokens (end_step draft item) w11)))))))))))
 
-item_read : (item : ModItem) (written : List Token) → IsItemText item written → IsItemRead item written
+pub item_read : (item : ModItem) (written : List Token) → IsItemText item written → IsItemRead item written
 item_read (Wire signed width n) written is = net_item_read false signed width n is.0 written is.1 is.2
 item_read (Reg signed width n) written is = net_item_read true signed width n is.0 written is.1 is.2
 item_read (Assign n e) written is = assign_read n e written is
@@ -209,7 +209,7 @@ pub items_read : (items : List ModItem) (written : List (List Token)) → AllZip
     length draft.items + length items ≤ draft.most →
     Writes (flat_map (λ item. item) written ++ tokens) lexemes → Reads (parser_at draft Items) lexemes (parser_at (with_items draft items) Items) tokens
 items_read [] [] all draft tokens lexemes room w =
-    record { more = lexemes; writes = w; same = ap (λ p. parse (parser_at (record draft { items = p }) Items) lexemes) (sym (append-nil draft.items)) }
+    record { taken = []; more = lexemes; writes = w; whole = refl; fed = ap (λ p. Some (parser_at (record draft { items = p }) Items)) (sym (append-nil draft.items)) }
 items_read [] (text ∷ written) all draft tokens lexemes room w = absurd all
 items_read (item ∷ items) [] all draft tokens lexemes room w = absurd all
 items_read (item ∷ items) (text ∷ written) all draft tokens lexemes room w =

@@ -252,7 +252,7 @@ place_lives draft (Semicolon item) kind lexeme n h = expect_lives _ lexeme _ Ite
 place_lives draft (End item) kind lexeme n h = expect_lives _ lexeme _ Items tt
 place_lives draft Done kind lexeme n h = stopped
 
-step_lives : (parser next : Parser) (lexeme : List ℕ) → IsLive parser.place → step parser lexeme ≡ Some next → IsLive next.place
+pub step_lives : (parser next : Parser) (lexeme : List ℕ) → IsLive parser.place → step parser lexeme ≡ Some next → IsLive next.place
 unfolding step
 step_lives parser next lexeme h e = (place_lives parser.draft parser.place (kind_of lexeme) lexeme (name_sound lexeme) h).each next e
 

@@ -1,13 +1,16 @@
 -- What was read of a module, where its reading stands.
-use Rattle.std.proofs.Common.{◌≡◌, ◌≢◌, ℕ, ◌-◌, ◌<◌, ◌≤◌, Bool, true, false, List, [], ◌∷◌, ◌++◌, map, take, length, codes}
+use Rattle.std.proofs.Common.{◌≡◌, ◌≢◌, ℕ, ◌-◌, ◌<◌, ◌≤◌, Bool, true, false, List, [], ◌∷◌, ◌++◌, map, take, length, Contains, codes}
 use Rattle.std.specs.List.{AllZip, flat_map}
 use Rattle.vl_ast.specs.declared.expressions.Sized.{Sized}
+use Rattle.vl_ast.specs.declared.designs.Instance.{Instance}
 use Rattle.vl_ast.specs.declared.modules.Attr.{Attr}
 use Rattle.vl_ast.specs.declared.modules.Module.{Module}
 use Rattle.vl_ast.specs.Spelling.{joined}
 use Rattle.vl_ast.specs.Tokens.{Token, Key, Sign, Identifier, Number, Based}
-use Rattle.vl_ast.specs.Grammar.{comma, attr_tokens, attrs_tokens, signed_tokens, IsPortText, condition_tokens, IsCondition, IsItemText, IsModuleText}
+use Rattle.vl_ast.specs.Grammar.{comma, attr_tokens, attrs_tokens, signed_tokens, IsPortText, condition_tokens, IsCondition, IsItemText}
+use Rattle.vl_ast.specs.Instances.{BodyPart, IsTopText, instance_parts, instance_tokens, item_parts, part_tokens}
 use Rattle.vl_read.specs.declared.places.Frame.{Frame}
+use Rattle.vl_read.specs.inner.Designs.{module_of}
 use Rattle.vl_read.specs.inner.Places.{Spot, Goal, NetKind, AttrSpot, Place}
 use Rattle.vl_read.specs.inner.Places.Goal.{Assigned, Condition, Next}
 use Rattle.vl_read.specs.inner.Places.NetKind.{OfPort, OfItem}
@@ -115,87 +118,92 @@ IsBegunItem place text = ⊥
 abbrev pub opened_tokens : Draft → List Token
 opened_tokens draft = attrs_tokens draft.attrs ++ (Key (codes "module") ∷ Identifier draft.name ∷ Sign (codes "(") ∷ [])
 
+-- what stands beside the draft of a module: how many items it may have, and the instances that were read in it
+pub record Given : Type 0 where
+  pub most : ℕ
+  pub instances : List Instance
+
 -- nothing but attributes and the name was read
-pub record BeforePorts (most : ℕ) (draft : Draft) : Type 0 where
+pub record BeforePorts (given : Given) (draft : Draft) : Type 0 where
   pub no_ports : draft.ports ≡ []
   pub no_items : draft.items ≡ []
-  pub kept : draft.most ≡ most
+  pub no_instances : given.instances ≡ []
+  pub kept : draft.most ≡ given.most
 
 -- the ports so far were read, and of the next one its own tokens
-pub record AtPort (most : ℕ) (draft : Draft) (own text : List Token) : Type 0 where
+pub record AtPort (given : Given) (draft : Draft) (own text : List Token) : Type 0 where
   pub ports : List (List Token)
   pub each_port : AllZip IsPortText draft.ports ports
   pub no_items : draft.items ≡ []
-  pub kept : draft.most ≡ most
+  pub no_instances : given.instances ≡ []
+  pub kept : draft.most ≡ given.most
   pub is : text ≡ opened_tokens draft ++ (before_next ports ++ own)
 
--- the tokens of all ports and of the items so far
-pub record BodyParts (most : ℕ) (draft : Draft) : Type 0 where
+-- the tokens of all ports, and of the items and instances so far
+pub record BodyParts (given : Given) (draft : Draft) : Type 0 where
   pub ports : List (List Token)
-  pub items : List (List Token)
+  pub parts : List BodyPart
   pub has_port : draft.ports ≢ []
+  pub has_link : (i : Instance) → Contains given.instances i → i.links ≢ []
   pub each_port : AllZip IsPortText draft.ports ports
-  pub each_item : AllZip IsItemText draft.items items
-  pub kept : draft.most ≡ most
-  pub room : length draft.items ≤ most
+  pub each_item : AllZip IsItemText draft.items (item_parts parts)
+  pub each_instance : instance_parts parts ≡ map instance_tokens given.instances
+  pub kept : draft.most ≡ given.most
+  pub room : length draft.items ≤ given.most
 
 -- they were read, and of the next item its own tokens
-pub record InBody (most : ℕ) (draft : Draft) (own text : List Token) : Type 0 where
-  pub parts : BodyParts most draft
-  pub is : text ≡ opened_tokens draft ++ (joined comma parts.ports ++ (Sign (codes ")") ∷ Sign (codes ";") ∷ (flat_map (λ item. item) parts.items ++ own)))
+pub record InBody (given : Given) (draft : Draft) (own text : List Token) : Type 0 where
+  pub parts : BodyParts given draft
+  pub is : text ≡ opened_tokens draft ++ (joined comma parts.ports ++ (Sign (codes ")") ∷ Sign (codes ";") ∷ (flat_map part_tokens parts.parts ++ own)))
 
 -- the same where one more item has room
-pub record InItem (most : ℕ) (draft : Draft) (own text : List Token) : Type 0 where
-  pub body : InBody most draft own text
-  pub room : length draft.items < most
+pub record InItem (given : Given) (draft : Draft) (own text : List Token) : Type 0 where
+  pub body : InBody given draft own text
+  pub room : length draft.items < given.most
 
 -- an item is begun up to a place
-pub record ItemAt (most : ℕ) (draft : Draft) (place : Place) (text : List Token) : Type 0 where
+pub record ItemAt (given : Given) (draft : Draft) (place : Place) (text : List Token) : Type 0 where
   pub own : List Token
-  pub around : InItem most draft own text
+  pub around : InItem given draft own text
   pub is : IsBegunItem place own
 
 -- what stands around a list of attributes
-abbrev pub AroundAttrs : ℕ → Draft → Bool → List Token → List Token → Type 0
-AroundAttrs most draft true own text = AtPort most draft own text
-AroundAttrs most draft false own text = BeforePorts most draft × (text ≡ own)
+abbrev pub AroundAttrs : Given → Draft → Bool → List Token → List Token → Type 0
+AroundAttrs given draft true own text = AtPort given draft own text
+AroundAttrs given draft false own text = BeforePorts given draft × (text ≡ own)
 
 -- a list of attributes is begun up to a spot
-pub record AttrsAt (most : ℕ) (draft : Draft) (of_port : Bool) (attrs : List Attr) (at : AttrSpot) (text : List Token) : Type 0 where
+pub record AttrsAt (given : Given) (draft : Draft) (of_port : Bool) (attrs : List Attr) (at : AttrSpot) (text : List Token) : Type 0 where
   pub own : List Token
-  pub around : AroundAttrs most draft of_port own text
+  pub around : AroundAttrs given draft of_port own text
   pub is : IsAttrText attrs at own
 
 -- what stands around a declaration
-abbrev pub AroundNet : ℕ → Draft → NetKind → List Token → List Token → Type 0
-AroundNet most draft (OfPort attrs input) own text = AtPort most draft (attrs_tokens attrs ++ own) text
-AroundNet most draft (OfItem is_reg) own text = InItem most draft own text
+abbrev pub AroundNet : Given → Draft → NetKind → List Token → List Token → Type 0
+AroundNet given draft (OfPort attrs input) own text = AtPort given draft (attrs_tokens attrs ++ own) text
+AroundNet given draft (OfItem is_reg) own text = InItem given draft own text
 
 -- a declaration is begun up to a spot
-pub record NetAt (most : ℕ) (draft : Draft) (net : NetKind) (at : NetSpot) (text : List Token) : Type 0 where
+pub record NetAt (given : Given) (draft : Draft) (net : NetKind) (at : NetSpot) (text : List Token) : Type 0 where
   pub own : List Token
-  pub around : AroundNet most draft net own text
+  pub around : AroundNet given draft net own text
   pub is : IsNetText net at own
 
--- the module so far
-abbrev pub module_of : Draft → Module
-module_of draft = record { name = draft.name; attrs = draft.attrs; ports = draft.ports; items = draft.items }
-
--- the text is one of the module, which has at most so many items
-pub record Whole (most : ℕ) (m : Module) (text : List Token) : Type 0 where
-  pub is : IsModuleText m text
-  pub room : length m.items ≤ most
+-- the text is one of the module, which has at given so many items
+pub record Whole (given : Given) (m : Module) (text : List Token) : Type 0 where
+  pub is : IsTopText m given.instances text
+  pub room : length m.items ≤ given.most
 
 -- the text before a place
-abbrev pub Has : ℕ → Draft → Place → List Token → Type 0
-Has most draft Start text = BeforePorts most draft × (text ≡ attrs_tokens draft.attrs)
-Has most draft (Attributes of_port attrs at) text = AttrsAt most draft of_port attrs at text
-Has most draft Title text = BeforePorts most draft × (text ≡ attrs_tokens draft.attrs ++ Key (codes "module") ∷ [])
-Has most draft Ports text = BeforePorts most draft × (text ≡ attrs_tokens draft.attrs ++ Key (codes "module") ∷ Identifier draft.name ∷ [])
-Has most draft (PortPlace attrs) text = AtPort most draft (attrs_tokens attrs) text
-Has most draft (Net net at) text = NetAt most draft net at text
-Has most draft AfterPort text = AtPort most draft [] (text ++ comma) × InBody most draft [] (text ++ Sign (codes ")") ∷ Sign (codes ";") ∷ [])
-Has most draft AfterPorts text = InBody most draft [] (text ++ Sign (codes ";") ∷ [])
-Has most draft Items text = InBody most draft [] text
-Has most draft Done text = Whole most (module_of draft) text
-Has most draft place text = ItemAt most draft place text
+abbrev pub Has : Given → Draft → Place → List Token → Type 0
+Has given draft Start text = BeforePorts given draft × (text ≡ attrs_tokens draft.attrs)
+Has given draft (Attributes of_port attrs at) text = AttrsAt given draft of_port attrs at text
+Has given draft Title text = BeforePorts given draft × (text ≡ attrs_tokens draft.attrs ++ Key (codes "module") ∷ [])
+Has given draft Ports text = BeforePorts given draft × (text ≡ attrs_tokens draft.attrs ++ Key (codes "module") ∷ Identifier draft.name ∷ [])
+Has given draft (PortPlace attrs) text = AtPort given draft (attrs_tokens attrs) text
+Has given draft (Net net at) text = NetAt given draft net at text
+Has given draft AfterPort text = AtPort given draft [] (text ++ comma) × InBody given draft [] (text ++ Sign (codes ")") ∷ Sign (codes ";") ∷ [])
+Has given draft AfterPorts text = InBody given draft [] (text ++ Sign (codes ";") ∷ [])
+Has given draft Items text = InBody given draft [] text
+Has given draft Done text = (draft.most ≡ given.most) × Whole given (module_of draft) text
+Has given draft place text = ItemAt given draft place text

@@ -235,7 +235,7 @@ with_ports draft ports = record draft { ports = draft.ports ++ ports }
 pub ports_read : (ports : List Port) (written : List (List Token)) → AllZip IsPortText ports written → (draft : Draft) (tokens : List Token) (lexemes : List (List ℕ)) →
     Writes (flat_map (λ more. comma ++ more) written ++ tokens) lexemes → Reads (parser_at draft AfterPort) lexemes (parser_at (with_ports draft ports) AfterPort) tokens
 ports_read [] [] all draft tokens lexemes w =
-    record { more = lexemes; writes = w; same = ap (λ p. parse (parser_at (record draft { ports = p }) AfterPort) lexemes) (sym (append-nil draft.ports)) }
+    record { taken = []; more = lexemes; writes = w; whole = refl; fed = ap (λ p. Some (parser_at (record draft { ports = p }) AfterPort)) (sym (append-nil draft.ports)) }
 ports_read [] (text ∷ written) all draft tokens lexemes w = absurd all
 ports_read (port ∷ ports) [] all draft tokens lexemes w = absurd all
 ports_read (port ∷ ports) (text ∷ written) all draft tokens lexemes w =

@@ -7,31 +7,21 @@ use Rattle.std.proofs.lemmas.Bool.{and_from, eqb-true}
 use Rattle.std.proofs.lemmas.List.Sums.{count_by-le-length}
 use Rattle.fx_io.specs.FaultLine.{IsOneLine, IsPrefix, AreWholeLines, Stops}
 use Rattle.fx_io.proofs.FaultLines.{line_join, count_append, count_none}
-use Rattle.vl_ast.specs.declared.modules.Module.{Module}
-use Rattle.vl_ast.specs.Grammar.{Spells, most_items}
+use Rattle.vl_ast.specs.Grammar.{most_items}
 use Rattle.vl_read.specs.declared.scan.Mode.{Mode}
 use Rattle.vl_read.specs.declared.scan.Mode.TheVariants.{Between}
-use Rattle.vl_read.specs.inner.Places.{Parser}
+use Rattle.vl_read.specs.declared.designer.Scope.{Scope}
+use Rattle.vl_read.specs.inner.Designs.{Sketch, design_reading, first_sketch, sketch_step}
 use Rattle.vl_read.specs.inner.Lexemes.{move, lexemes_from}
-use Rattle.vl_read.specs.inner.Plain.{start, step, parse, reading}
-use Rattle.vl_read.specs.Prefix.{IsVerilog, IsVerilogFaultLine}
-use Rattle.vl_read.specs.inner.Turns.{IsBeyond, IsWithin, feed, ahead}
-use Rattle.vl_read.proofs.Complete.{complete}
-use Rattle.vl_read.proofs.Sound.{sound}
-use Rattle.vl_read.proofs.Spells.{spelled}
-use Rattle.vl_read.proofs.KindSound.{then_some}
-use Rattle.vl_read.proofs.Endings.{endable, line_end}
-use Rattle.vl_read.proofs.Remainder.{silently, Quits, ahead_next, ahead_ended, ahead_stopped, feed_append, fed_one}
+use Rattle.vl_read.specs.inner.Scopes.{IsLineIn, IsNoText, IsTextIn}
+use Rattle.vl_read.specs.inner.Turns.{IsBeyond, IsWithin, gather, ahead}
+use Rattle.vl_read.proofs.Endings.{line_end}
+use Rattle.vl_read.proofs.Feeds.{feed_append, fed_one}
+use Rattle.vl_read.proofs.Scoped.{text_ends, text_found, text_read}
+use Rattle.vl_read.proofs.Remainder.{silently, Quits, ahead_next, ahead_ended, ahead_stopped}
 
 abbrev newline : ℕ → Bool
 newline byte = byte == 10
-
--- what is read from bytes they spell
-pub reading_sound : (most : ℕ) (bytes : List ℕ) (m : Module) → reading most bytes ≡ Some m → Spells bytes m × (length m.items ≤ most)
-reading_sound most bytes m e =
-    let divided = then_some (lexemes_from Between [] bytes) (parse (start most)) m e in
-    let parsed = sound most divided.0 m divided.2 in
-    (spelled bytes divided.0 parsed.0 m divided.1 (record { each = parsed.2 }) parsed.1, parsed.3)
 
 -- bytes that begin as those that are left
 abbrev pub Alike : List ℕ → List ℕ → Type 0
@@ -44,35 +34,34 @@ alike_itself (byte ∷ rest) = (rest, refl)
 
 -- The bytes up to a place were read: whole lines, and the beginning of the next. What they make of more bytes is known
 -- where these begin as those that are left.
-pub record Reached (bytes rest : List ℕ) (parser : Parser) (mode : Mode) (lexeme : List ℕ) (line : ℕ) : Type 0 where
+pub record Reached (scope : Scope) (bytes rest : List ℕ) (parser : Sketch) (mode : Mode) (lexeme : List ℕ) (line : ℕ) : Type 0 where
   pub before : List ℕ
   pub here : List ℕ
   pub whole : bytes ≡ (before ++ here) ++ rest
   pub lines : AreWholeLines before
   pub one : IsOneLine here
   pub number : line ≡ 1 + count_by newline before
-  pub begins : IsPrefix IsVerilog before
+  pub begins : IsPrefix (IsTextIn scope) before
   pub lexemes : List (List ℕ)
-  pub fed : feed (start most_items) lexemes ≡ Some parser
-  pub reads : (more : List ℕ) → Alike rest more → reading most_items ((before ++ here) ++ more) ≡ ahead parser mode lexeme more
+  pub fed : gather (first_sketch scope most_items) lexemes ≡ Some parser
+  pub reads : (more : List ℕ) → Alike rest more → design_reading scope most_items ((before ++ here) ++ more) ≡ ahead parser mode lexeme more
 
 -- bytes that were read to the end of a line begin a text
-begun : (bytes : List ℕ) (lexemes : List (List ℕ)) (parser : Parser) (mode : Mode) → feed (start most_items) lexemes ≡ Some parser → IsBeyond mode →
-    ((more : List ℕ) → reading most_items (bytes ++ more) ≡ ahead parser mode [] more) → IsPrefix IsVerilog bytes
-begun bytes lexemes parser mode fed beyond reads =
-    let end = endable most_items lexemes parser mode fed beyond in
-    let spelt = reading_sound most_items (bytes ++ end.0) end.1 (reads end.0 ∙ end.2) in
-    record { rest = end.0; is_text = (end.1, spelt.0, spelt.1) }
+begun : (scope : Scope) (bytes : List ℕ) (lexemes : List (List ℕ)) (parser : Sketch) (mode : Mode) → gather (first_sketch scope most_items) lexemes ≡ Some parser → IsBeyond mode →
+    ((more : List ℕ) → design_reading scope most_items (bytes ++ more) ≡ ahead parser mode [] more) → IsPrefix (IsTextIn scope) bytes
+begun scope bytes lexemes parser mode fed beyond reads =
+    let end = text_ends scope lexemes parser mode fed beyond in
+    record { rest = end.0; is_text = text_found scope (bytes ++ end.0) end.1 (reads end.0 ∙ end.2) }
 
-pub reached_start : (bytes : List ℕ) (parser : Parser) → parser ≡ start most_items → Reached bytes bytes parser Between [] 1
-reached_start bytes parser is = record {
+pub reached_start : (scope : Scope) (bytes : List ℕ) (parser : Sketch) → parser ≡ first_sketch scope most_items → Reached scope bytes bytes parser Between [] 1
+reached_start scope bytes parser is = record {
   before = [];
   here = [];
   whole = refl;
   lines = inl refl;
   one = refl;
   number = refl;
-  begins = begun [] [] (start most_items) Between refl tt (λ more. refl);
+  begins = begun scope [] [] (first_sketch scope most_items) Between refl tt (λ more. refl);
   lexemes = [];
   fed = ap Some (sym is);
   reads = λ more alike. ap (λ p. ahead p Between [] more) (sym is);
@@ -89,7 +78,7 @@ first_line (b ∷ bs) = of (b == 10) refl (first_line bs)
     of false e (inl one) = inl (and_from (not (b == 10)) (list_all (λ byte. not (byte == 10)) bs) (ap not e) one)
     of false e (inr split) = inr (b ∷ split.0, split.1, and_from (not (b == 10)) (list_all (λ byte. not (byte == 10)) split.0) (ap not e) split.2, ap (λ l. b ∷ l) split.3)
 
-module _ (bytes rest : List ℕ) (parser : Parser) (mode : Mode) (lexeme : List ℕ) (line : ℕ) (reached : Reached bytes rest parser mode lexeme line) where
+module _ (scope : Scope) (bytes rest : List ℕ) (parser : Sketch) (mode : Mode) (lexeme : List ℕ) (line : ℕ) (reached : Reached scope bytes rest parser mode lexeme line) where
   -- the line is not past the bytes before it
   pub line_within : line + length rest ≤ 1 + length bytes
   line_within = omega (
@@ -101,17 +90,17 @@ module _ (bytes rest : List ℕ) (parser : Parser) (mode : Mode) (lexeme : List 
     length-append reached.before reached.here,
   )
 
-  pub reads_all : reading most_items bytes ≡ ahead parser mode lexeme rest
-  reads_all = ap (reading most_items) reached.whole ∙ reached.reads rest (alike_itself rest)
+  pub reads_all : design_reading scope most_items bytes ≡ ahead parser mode lexeme rest
+  reads_all = ap (design_reading scope most_items) reached.whole ∙ reached.reads rest (alike_itself rest)
 
-  pub found : (m : Module) → ahead parser mode lexeme rest ≡ Some m → Spells bytes m × (length m.items ≤ most_items)
-  found m e = reading_sound most_items bytes m (reads_all ∙ e)
-
-  pub refused : ahead parser mode lexeme rest ≡ None → (m : Module) → Spells bytes m → length m.items ≤ most_items → ⊥
-  refused none m spells few = let both : None ≡ Some m = sym (reads_all ∙ none) ∙ complete bytes m most_items spells few in absurd cc
+  pub refused : ahead parser mode lexeme rest ≡ None → IsNoText scope bytes
+  refused none text =
+      let read = text_read scope bytes text in
+      let both : None ≡ Some read.0 = sym (reads_all ∙ none) ∙ read.1 in
+      absurd cc
 
   -- the last line has a fault
-  pub fault_at_end : rest ≡ [] → IsVerilogFaultLine bytes line
+  pub fault_at_end : rest ≡ [] → IsLineIn scope bytes line
   fault_at_end e = record {
     before = reached.before;
     after = reached.here;
@@ -128,14 +117,15 @@ module _ (bytes rest : List ℕ) (parser : Parser) (mode : Mode) (lexeme : List 
     alike more = subst (λ l. Alike l (byte ∷ more)) (sym split) (more, refl)
 
     -- nothing that begins with the bytes and a refused one is a text
-    no_text : ((more : List ℕ) → ahead parser mode lexeme (byte ∷ more) ≡ None) → (more : List ℕ) → IsVerilog ((reached.before ++ reached.here) ++ byte ∷ more) → ⊥
+    no_text : ((more : List ℕ) → ahead parser mode lexeme (byte ∷ more) ≡ None) → (more : List ℕ) → IsTextIn scope ((reached.before ++ reached.here) ++ byte ∷ more) → ⊥
     no_text none more text =
-        let both : None ≡ Some text.0 = sym (reached.reads (byte ∷ more) (alike more) ∙ none more) ∙ complete ((reached.before ++ reached.here) ++ byte ∷ more) text.0 most_items text.1 text.2 in
+        let read = text_read scope ((reached.before ++ reached.here) ++ byte ∷ more) text in
+        let both : None ≡ Some read.0 = sym (reached.reads (byte ∷ more) (alike more) ∙ none more) ∙ read.1 in
         absurd cc
 
     line_stops : ((more : List ℕ) → ahead parser mode lexeme (byte ∷ more) ≡ None)
         → IsOneLine (byte ∷ after) ⊎ ((line more : List ℕ) × IsOneLine line × (byte ∷ after ≡ line ++ 10 ∷ more))
-        → Stops IsVerilog reached.before (reached.here ++ byte ∷ after)
+        → Stops (IsTextIn scope) reached.before (reached.here ++ byte ∷ after)
     line_stops none (inl one) = inl (line_join reached.here (byte ∷ after) reached.one one)
     line_stops none (inr ([], more, one, e)) = inr (
       reached.here,
@@ -143,7 +133,7 @@ module _ (bytes rest : List ℕ) (parser : Parser) (mode : Mode) (lexeme : List 
       reached.one,
       ap (λ l. reached.here ++ l) e,
       λ prefix.
-          no_text none prefix.rest (subst IsVerilog (at_newline prefix.rest) prefix.is_text),
+          no_text none prefix.rest (subst (IsTextIn scope) (at_newline prefix.rest) prefix.is_text),
     )
       where
         at_newline : (tail : List ℕ) → (reached.before ++ (reached.here ++ 10 ∷ [])) ++ tail ≡ (reached.before ++ reached.here) ++ byte ∷ tail
@@ -156,7 +146,7 @@ module _ (bytes rest : List ℕ) (parser : Parser) (mode : Mode) (lexeme : List 
       line_join reached.here (b ∷ line) reached.one one,
       ap (λ l. reached.here ++ l) e ∙ sym (append_assoc reached.here (b ∷ line) (10 ∷ more)),
       λ prefix.
-          no_text none ((line ++ 10 ∷ []) ++ prefix.rest) (subst IsVerilog (past_newline prefix.rest) prefix.is_text),
+          no_text none ((line ++ 10 ∷ []) ++ prefix.rest) (subst (IsTextIn scope) (past_newline prefix.rest) prefix.is_text),
     )
       where
         past_newline : (tail : List ℕ) → (reached.before ++ ((reached.here ++ b ∷ line) ++ 10 ∷ [])) ++ tail ≡ (reached.before ++ reached.here) ++ byte ∷ ((line ++ 10 ∷ []) ++ tail)
@@ -166,7 +156,7 @@ module _ (bytes rest : List ℕ) (parser : Parser) (mode : Mode) (lexeme : List 
             (simp append_assoc refl)
 
     -- the line has a fault, where nothing goes on with the byte
-    fault_here : ((more : List ℕ) → ahead parser mode lexeme (byte ∷ more) ≡ None) → IsVerilogFaultLine bytes line
+    fault_here : ((more : List ℕ) → ahead parser mode lexeme (byte ∷ more) ≡ None) → IsLineIn scope bytes line
     fault_here none = record {
       before = reached.before;
       after = reached.here ++ byte ∷ after;
@@ -178,19 +168,19 @@ module _ (bytes rest : List ℕ) (parser : Parser) (mode : Mode) (lexeme : List 
     }
 
     -- a byte that may not stand there
-    pub stopped_refused : None ≡ move mode lexeme byte → (m : Module) → Spells bytes m → length m.items ≤ most_items → ⊥
+    pub stopped_refused : None ≡ move mode lexeme byte → IsNoText scope bytes
     stopped_refused e = refused (ap (ahead parser mode lexeme) split ∙ ahead_stopped parser mode lexeme after byte e)
 
-    pub stopped_line : None ≡ move mode lexeme byte → IsVerilogFaultLine bytes line
+    pub stopped_line : None ≡ move mode lexeme byte → IsLineIn scope bytes line
     stopped_line e = fault_here (λ more. ahead_stopped parser mode lexeme more byte e)
 
     -- a byte that the reading goes on with
     module _ (to : Mode) (then : List ℕ) (moves : Some (silently to then) ≡ move mode lexeme byte) where
-      reads_next : (more : List ℕ) → reading most_items ((reached.before ++ reached.here) ++ byte ∷ more) ≡ ahead parser to then more
+      reads_next : (more : List ℕ) → design_reading scope most_items ((reached.before ++ reached.here) ++ byte ∷ more) ≡ ahead parser to then more
       reads_next more = reached.reads (byte ∷ more) (alike more) ∙ ahead_next parser mode to lexeme then more byte moves
 
       -- in the line
-      in_line : (byte == 10) ≡ false → Reached bytes after parser to then line
+      in_line : (byte == 10) ≡ false → Reached scope bytes after parser to then line
       in_line other = record {
         before = reached.before;
         here = reached.here ++ byte ∷ [];
@@ -201,21 +191,21 @@ module _ (bytes rest : List ℕ) (parser : Parser) (mode : Mode) (lexeme : List 
         begins = reached.begins;
         lexemes = reached.lexemes;
         fed = reached.fed;
-        reads = λ more like. ap (reading most_items) (one_more more) ∙ reads_next more;
+        reads = λ more like. ap (design_reading scope most_items) (one_more more) ∙ reads_next more;
       }
         where
           one_more : (more : List ℕ) → (reached.before ++ (reached.here ++ byte ∷ [])) ++ more ≡ (reached.before ++ reached.here) ++ byte ∷ more
           one_more more = simp append_assoc refl
 
       -- at its end
-      at_line_end : (byte == 10) ≡ true → Reached bytes after parser to then (line + 1)
+      at_line_end : (byte == 10) ≡ true → Reached scope bytes after parser to then (line + 1)
       at_line_end newline_is =
           let same : byte ≡ 10 = eqb-true byte 10 newline_is in
           let ends = line_end mode lexeme (silently to then) (ap (move mode lexeme) (sym same) ∙ sym moves) in
           let front : List ℕ = reached.before ++ reached.here in
-          let goes_on : ((more : List ℕ) → reading most_items ((front ++ byte ∷ []) ++ more)
-          ≡ ahead parser to then more) = λ more. ap (reading most_items) (append_assoc front (byte ∷ []) more)
-          ∙ reads_next more in
+          let goes_on : ((more : List ℕ) → design_reading scope most_items ((front ++ byte ∷ []) ++ more)
+          ≡ ahead parser to then more) = λ more. ap (design_reading scope most_items)
+          (append_assoc front (byte ∷ []) more) ∙ reads_next more in
           record {
             before = front ++ byte ∷ [];
             here = [];
@@ -223,10 +213,10 @@ module _ (bytes rest : List ℕ) (parser : Parser) (mode : Mode) (lexeme : List 
             lines = inr (front, ap (λ b. front ++ b ∷ []) same);
             one = refl;
             number = counted same;
-            begins = begun (front ++ byte ∷ []) reached.lexemes parser to reached.fed ends.0 (λ more. goes_on more ∙ ap (λ l. ahead parser to l more) ends.1);
+            begins = begun scope (front ++ byte ∷ []) reached.lexemes parser to reached.fed ends.0 (λ more. goes_on more ∙ ap (λ l. ahead parser to l more) ends.1);
             lexemes = reached.lexemes;
             fed = reached.fed;
-            reads = λ more like. ap (λ l. reading most_items (l ++ more)) (append-nil (front ++ byte ∷ [])) ∙ goes_on more;
+            reads = λ more like. ap (λ l. design_reading scope most_items (l ++ more)) (append-nil (front ++ byte ∷ [])) ∙ goes_on more;
           }
         where
           counted : byte ≡ 10 → line + 1 ≡ 1 + count_by newline ((reached.before ++ reached.here) ++ byte ∷ [])
@@ -234,23 +224,23 @@ module _ (bytes rest : List ℕ) (parser : Parser) (mode : Mode) (lexeme : List 
               let last : count_by newline (byte ∷ []) ≡ 1 = ap (λ b. count_by newline (b ∷ [])) same in
               omega (arith, reached.number, count_append (reached.before ++ reached.here) (byte ∷ []), count_append reached.before reached.here, count_none reached.here reached.one, last)
 
-      pub reached_next : (new_line : ℕ) → new_line ≡ line + cond (byte == 10) 1 0 → Reached bytes after parser to then new_line
+      pub reached_next : (new_line : ℕ) → new_line ≡ line + cond (byte == 10) 1 0 → Reached scope bytes after parser to then new_line
       reached_next new_line counts = of (byte == 10) refl counts
         where
-          of : (t : Bool) → (byte == 10) ≡ t → new_line ≡ line + cond t 1 0 → Reached bytes after parser to then new_line
-          of true is counts = subst (λ n. Reached bytes after parser to then n) (sym counts) (at_line_end is)
-          of false is counts = subst (λ n. Reached bytes after parser to then n) (sym counts) (subst (λ n. Reached bytes after parser to then n) (omega arith) (in_line is))
+          of : (t : Bool) → (byte == 10) ≡ t → new_line ≡ line + cond t 1 0 → Reached scope bytes after parser to then new_line
+          of true is counts = subst (λ n. Reached scope bytes after parser to then n) (sym counts) (at_line_end is)
+          of false is counts = subst (λ n. Reached scope bytes after parser to then n) (sym counts) (subst (λ n. Reached scope bytes after parser to then n) (omega arith) (in_line is))
 
   -- where the lexeme ends before the bytes that are left
   module _ (within : IsWithin mode) (quits : Quits mode lexeme rest) where
     -- a lexeme that may not stand there
-    pub unfed_refused : None ≡ step parser lexeme → (m : Module) → Spells bytes m → length m.items ≤ most_items → ⊥
+    pub unfed_refused : None ≡ sketch_step parser lexeme → IsNoText scope bytes
     unfed_refused e = refused (ahead_ended parser mode lexeme rest within quits ∙ ap (option_and_then (λ q. ahead q Between [] rest)) (sym e))
 
-    pub unfed_line : None ≡ step parser lexeme → IsVerilogFaultLine bytes line
+    pub unfed_line : None ≡ sketch_step parser lexeme → IsLineIn scope bytes line
     unfed_line e = of rest refl
       where
-        of : (left : List ℕ) → rest ≡ left → IsVerilogFaultLine bytes line
+        of : (left : List ℕ) → rest ≡ left → IsLineIn scope bytes line
         of [] is = fault_at_end is
         of (byte ∷ after) is = fault_here byte after is
             (λ more. ahead_ended parser mode lexeme (byte ∷ more) within (subst (Quits mode lexeme) is quits)
@@ -261,7 +251,7 @@ module _ (bytes rest : List ℕ) (parser : Parser) (mode : Mode) (lexeme : List 
     quits_alike (byte ∷ left) more is like = subst (Quits mode lexeme) (sym like.1) is
 
     -- one that is read
-    pub reached_fed : (next : Parser) → Some next ≡ step parser lexeme → Reached bytes rest next Between [] line
+    pub reached_fed : (next : Sketch) → Some next ≡ sketch_step parser lexeme → Reached scope bytes rest next Between [] line
     reached_fed next e = record {
       before = reached.before;
       here = reached.here;
@@ -271,7 +261,9 @@ module _ (bytes rest : List ℕ) (parser : Parser) (mode : Mode) (lexeme : List 
       number = reached.number;
       begins = reached.begins;
       lexemes = reached.lexemes ++ lexeme ∷ [];
-      fed = feed_append reached.lexemes (lexeme ∷ []) (start most_items) ∙ ap (option_and_then (λ p. feed p (lexeme ∷ []))) reached.fed ∙ fed_one parser lexeme ∙ sym e;
+      fed = feed_append sketch_step reached.lexemes (lexeme ∷ []) (first_sketch scope most_items)
+          ∙ ap (option_and_then (λ p. gather p (lexeme ∷ []))) reached.fed ∙ fed_one sketch_step parser lexeme
+          ∙ sym e;
       reads = λ more like.
           reached.reads more like
           ∙ ahead_ended parser mode lexeme more within (quits_alike rest more quits like)

@@ -6,46 +6,23 @@ use Rattle.vl_read.specs.declared.scan.ByteClass.{ByteClass}
 use Rattle.vl_read.specs.declared.scan.ByteClass.TheVariants.{OfWord, OfBlank, OfComment, OfMark, OfNone}
 use Rattle.vl_read.specs.declared.scan.Mode.{Mode}
 use Rattle.vl_read.specs.declared.scan.Mode.TheVariants.{Between, Word, Mark, Slash, LineComment, BlockComment, Star}
-use Rattle.vl_read.specs.inner.Places.{Parser}
+use Rattle.vl_read.specs.inner.Designs.{Sketch, parse_design, sketch_step}
 use Rattle.vl_read.specs.inner.Lexemes.{Move, class_of, continues, begin, outside, moved, move, lexemes_from}
-use Rattle.vl_read.specs.inner.Turns.{IsBeyond, IsWithin, mode_by, mode_after, feed, ahead}
-use Rattle.vl_read.specs.inner.Plain.{parse, step}
+use Rattle.vl_read.specs.inner.Turns.{IsBeyond, IsWithin, mode_by, mode_after, gather, ahead}
+use Rattle.vl_read.proofs.Feeds.{fed_one, run_feed}
 use Rattle.vl_read.proofs.GapScan.{silent, restart, is_word, is_mark}
 
--- what goes on lexeme by lexeme goes on after some of them
-run_feed : {X : Type 0} (run : Parser → List (List ℕ) → Option X) → ((p : Parser) (l : List ℕ) (ls : List (List ℕ)) → run p (l ∷ ls) ≡ option_and_then (λ q. run q ls) (step p l)) →
-    (ls more : List (List ℕ)) (p : Parser) → run p (ls ++ more) ≡ option_and_then (λ q. run q more) (feed p ls)
-run_feed run steps [] more p = refl
-run_feed run steps (l ∷ ls) more p = steps p l (ls ++ more) ∙ of (step p l) (run_feed run steps ls more)
-  where
-    of : (o : Option Parser) → ((q : Parser) → run q (ls ++ more) ≡ option_and_then (λ q. run q more) (feed q ls)) →
-        option_and_then (λ q. run q (ls ++ more)) o ≡ option_and_then (λ q. run q more) (option_and_then (λ q. feed q ls) o)
-    of None later = refl
-    of (Some q) later = later q
+parse_feed : (ls more : List (List ℕ)) (p : Sketch) → parse_design p (ls ++ more) ≡ option_and_then (λ q. parse_design q more) (gather p ls)
+parse_feed ls more p = run_feed sketch_step parse_design (λ p l ls. refl) ls more p
 
-parse_feed : (ls more : List (List ℕ)) (p : Parser) → parse p (ls ++ more) ≡ option_and_then (λ q. parse q more) (feed p ls)
-parse_feed ls more p = run_feed parse (λ p l ls. refl) ls more p
-
--- lexemes after lexemes
-pub feed_append : (ls more : List (List ℕ)) (p : Parser) → feed p (ls ++ more) ≡ option_and_then (λ q. feed q more) (feed p ls)
-feed_append ls more p = run_feed feed (λ p l ls. refl) ls more p
-
--- one lexeme
-pub fed_one : (p : Parser) (lexeme : List ℕ) → feed p (lexeme ∷ []) ≡ step p lexeme
-fed_one p lexeme = of (step p lexeme)
-  where
-    of : (o : Option Parser) → option_and_then (λ next. feed next []) o ≡ o
-    of None = refl
-    of (Some q) = refl
-
-none_then : (o : Option Parser) → option_and_then (λ (q : Parser). option_and_then (parse q) None) o ≡ None
+none_then : (o : Option Sketch) → option_and_then (λ (q : Sketch). option_and_then (parse_design q) None) o ≡ None
 none_then None = refl
 none_then (Some q) = refl
 
-ahead_feed : (ls : List (List ℕ)) (p : Parser) (o : Option (List (List ℕ)))
-    → option_and_then (parse p) (option_map (λ more. ls ++ more) o)
-    ≡ option_and_then (λ q. option_and_then (parse q) o) (feed p ls)
-ahead_feed ls p None = sym (none_then (feed p ls))
+ahead_feed : (ls : List (List ℕ)) (p : Sketch) (o : Option (List (List ℕ)))
+    → option_and_then (parse_design p) (option_map (λ more. ls ++ more) o)
+    ≡ option_and_then (λ q. option_and_then (parse_design q) o) (gather p ls)
+ahead_feed ls p None = sym (none_then (gather p ls))
 ahead_feed ls p (Some more) = parse_feed ls more p
 
 -- the lexeme that a byte begins
@@ -93,13 +70,13 @@ grows Word lexeme byte h e = ap (λ t. cond t (moved [] Word (lexeme ++ byte ∷
 grows Mark lexeme byte h e = ap (λ t. cond t (moved [] Mark (lexeme ++ byte ∷ [])) (begin (lexeme ∷ []) (class_of byte) byte)) (sym e)
 grows _ lexeme byte h e = absurd h
 
-pub ahead_next : (p : Parser) (mode to : Mode) (lexeme then rest : List ℕ) (byte : ℕ) → Some (silently to then) ≡ move mode lexeme byte →
+pub ahead_next : (p : Sketch) (mode to : Mode) (lexeme then rest : List ℕ) (byte : ℕ) → Some (silently to then) ≡ move mode lexeme byte →
     ahead p mode lexeme (byte ∷ rest) ≡ ahead p to then rest
-ahead_next p mode to lexeme then rest byte e = ap (option_and_then (parse p)) (silent mode to lexeme then byte rest (sym e))
+ahead_next p mode to lexeme then rest byte e = ap (option_and_then (parse_design p)) (silent mode to lexeme then byte rest (sym e))
 
-pub ahead_stopped : (p : Parser) (mode : Mode) (lexeme rest : List ℕ) (byte : ℕ) → None ≡ move mode lexeme byte → ahead p mode lexeme (byte ∷ rest) ≡ None
+pub ahead_stopped : (p : Sketch) (mode : Mode) (lexeme rest : List ℕ) (byte : ℕ) → None ≡ move mode lexeme byte → ahead p mode lexeme (byte ∷ rest) ≡ None
 ahead_stopped p mode lexeme rest byte e =
-    ap (λ o. option_and_then (parse p) (option_and_then (λ (n : Move). option_map (λ more. n.lexemes ++ more) (lexemes_from n.mode n.lexeme rest)) o)) (sym e)
+    ap (λ o. option_and_then (parse_design p) (option_and_then (λ (n : Move). option_map (λ more. n.lexemes ++ more) (lexemes_from n.mode n.lexeme rest)) o)) (sym e)
 
 -- the lexeme ends where the bytes that are left begin
 abbrev pub Quits : Mode → List ℕ → List ℕ → Type 0
@@ -107,18 +84,18 @@ Quits mode lexeme [] = ⊤
 Quits mode lexeme (byte ∷ rest) = continues mode (class_of byte) lexeme byte ≡ false
 
 -- then it is read
-pub ahead_ended : (p : Parser) (mode : Mode) (lexeme rest : List ℕ) → IsWithin mode → Quits mode lexeme rest →
-    ahead p mode lexeme rest ≡ option_and_then (λ q. ahead q Between [] rest) (step p lexeme)
+pub ahead_ended : (p : Sketch) (mode : Mode) (lexeme rest : List ℕ) → IsWithin mode → Quits mode lexeme rest →
+    ahead p mode lexeme rest ≡ option_and_then (λ q. ahead q Between [] rest) (sketch_step p lexeme)
 ahead_ended p Word lexeme [] h quits = refl
 ahead_ended p Mark lexeme [] h quits = refl
 ahead_ended p Word lexeme (byte ∷ rest) h quits =
-    ap (option_and_then (parse p)) (restart Word lexeme byte rest is_word quits)
+    ap (option_and_then (parse_design p)) (restart Word lexeme byte rest is_word quits)
     ∙ ahead_feed (lexeme ∷ []) p (lexemes_from Between [] (byte ∷ rest))
-    ∙ ap (option_and_then (λ q. ahead q Between [] (byte ∷ rest))) (fed_one p lexeme)
+    ∙ ap (option_and_then (λ q. ahead q Between [] (byte ∷ rest))) (fed_one sketch_step p lexeme)
 ahead_ended p Mark lexeme (byte ∷ rest) h quits =
-    ap (option_and_then (parse p)) (restart Mark lexeme byte rest is_mark quits)
+    ap (option_and_then (parse_design p)) (restart Mark lexeme byte rest is_mark quits)
     ∙ ahead_feed (lexeme ∷ []) p (lexemes_from Between [] (byte ∷ rest))
-    ∙ ap (option_and_then (λ q. ahead q Between [] (byte ∷ rest))) (fed_one p lexeme)
+    ∙ ap (option_and_then (λ q. ahead q Between [] (byte ∷ rest))) (fed_one sketch_step p lexeme)
 ahead_ended p _ lexeme rest h quits = absurd h
 
 -- what is left of bytes at a place in them

@@ -1,5 +1,5 @@
 -- The tokens of a module may follow each other with nothing between them.
-use Rattle.std.proofs.Common.{◌≡◌, ◌≢◌, inl, inr, ℕ, Bool, true, false, List, [], ◌∷◌, ◌++◌, map, Option, Some, None, refl, ◌∙◌, ap, codes, append_assoc}
+use Rattle.std.proofs.Common.{◌≡◌, ◌≢◌, inl, inr, ℕ, Bool, true, false, List, [], ◌∷◌, ◌++◌, map, Option, Some, None, refl, sym, ◌∙◌, ap, codes, append_assoc, append-nil}
 use Rattle.std.specs.List.{AllZip, flat_map}
 use Rattle.std.proofs.lemmas.Bool.{and_parts, and_from}
 use Rattle.vl_ast.specs.declared.expressions.Sized.{Sized}
@@ -14,6 +14,7 @@ use Rattle.vl_ast.specs.Tokens.{Token, Key, Sign, Identifier, Number}
 use Rattle.vl_ast.specs.Grammar.{comma, expr_tokens, attr_tokens, attrs_tokens, signed_tokens, IsRange, declaration_tokens, IsPortText, condition_tokens, IsItemText, IsModuleText}
 use Rattle.vl_read.specs.inner.Lexemes.{class_of, extends}
 use Rattle.vl_read.proofs.Safe.{is_key, is_fine, follows, safe}
+use Rattle.vl_read.proofs.Modules.{behind, header}
 use Rattle.vl_read.proofs.ModuleTokens.{more_attrs, attrs_rest, direction, port_text, port_words, port_is, declaration_is, assign_is, always_tokens, always_is, condition_is}
 use Rattle.vl_read.proofs.SafeMarks.{fine_first, after_closing, never, after_mark, closes_identifier, closes_key, closes_number, begun, follows_key, opens_open, fine_open, mark_opens, round_ends}
 use Rattle.vl_read.proofs.SafeExpressions.{expr_safe}
@@ -25,7 +26,7 @@ unfolding follows extends is_fine class_of
 more_attrs_fine [] tokens h = after_mark (codes "*)") tokens never h
 more_attrs_fine (attr ∷ attrs) tokens h = after_closing (Number attr.value) (more_attrs attrs tokens) (closes_number attr.value) (more_attrs_fine attrs tokens h)
 
-attrs_fine : (attrs : List Attr) (tokens : List Token) → fine_first tokens ≡ true → fine_first (attrs_tokens attrs ++ tokens) ≡ true
+pub attrs_fine : (attrs : List Attr) (tokens : List Token) → fine_first tokens ≡ true → fine_first (attrs_tokens attrs ++ tokens) ≡ true
 unfolding follows extends is_fine class_of
 attrs_fine [] tokens h = h
 attrs_fine (attr ∷ attrs) tokens h =
@@ -34,11 +35,11 @@ attrs_fine (attr ∷ attrs) tokens h =
 
 -- declarations
 
-name_fine : (n : List ℕ) (tokens : List Token) → fine_first tokens ≡ true → fine_first (Identifier n ∷ tokens) ≡ true
+pub name_fine : (n : List ℕ) (tokens : List Token) → fine_first tokens ≡ true → fine_first (Identifier n ∷ tokens) ≡ true
 unfolding is_fine
 name_fine n tokens h = after_closing (Identifier n) tokens (closes_identifier n) h
 
-key_fine : (word : List ℕ) (tokens : List Token) → is_key word ≡ true → fine_first tokens ≡ true → fine_first (Key word ∷ tokens) ≡ true
+pub key_fine : (word : List ℕ) (tokens : List Token) → is_key word ≡ true → fine_first tokens ≡ true → fine_first (Key word ∷ tokens) ≡ true
 unfolding is_fine
 key_fine word tokens fine h = and_from (is_key word) (safe (Key word) tokens) fine (after_closing (Key word) tokens (closes_key word) h)
 
@@ -110,7 +111,7 @@ more_ports_fine (port ∷ ports) (text ∷ written) tokens all h =
     ap (λ t. fine_first (Sign (codes ",") ∷ t)) (append_assoc text (flat_map (λ more. comma ++ more) written) tokens)
     ∙ and_from _ _ (and_parts _ _ (mark_opens (codes ",") refl)).0 (after_mark (codes ",") _ never (port_fine port text _ all.0 (more_ports_fine ports written tokens all.1 h)))
 
-ports_safe : (ports : List Port) (written : List (List Token)) (tokens : List Token) → ports ≢ []
+pub ports_safe : (ports : List Port) (written : List (List Token)) (tokens : List Token) → ports ≢ []
     → AllZip IsPortText ports written → fine_first tokens ≡ true
     → safe (Sign (codes "(")) (joined comma written ++ tokens) ≡ true
 ports_safe [] written tokens some all h = absurd (some refl)
@@ -121,7 +122,7 @@ ports_safe (port ∷ ports) (text ∷ written) tokens some all h =
 
 -- items
 
-semicolon_fine : (tokens : List Token) → fine_first tokens ≡ true → fine_first (Sign (codes ";") ∷ tokens) ≡ true
+pub semicolon_fine : (tokens : List Token) → fine_first tokens ≡ true → fine_first (Sign (codes ";") ∷ tokens) ≡ true
 unfolding is_fine class_of extends
 semicolon_fine tokens h = after_mark (codes ";") tokens never h
 
@@ -143,7 +144,7 @@ assign_fine n e written tokens same h =
     (and_from _ _ f.0
     (expr_safe e (Sign (codes "=")) (Sign (codes ";") ∷ tokens) f.1 (semicolon_fine tokens h))))
 
-open_fine : (tokens : List Token) → safe (Sign (codes "(")) tokens ≡ true → fine_first (Sign (codes "(") ∷ tokens) ≡ true
+pub open_fine : (tokens : List Token) → safe (Sign (codes "(")) tokens ≡ true → fine_first (Sign (codes "(") ∷ tokens) ≡ true
 open_fine tokens h = and_from _ _ fine_open h
 
 condition_fine : (condition : Option Expr) (tokens : List Token) → fine_first tokens ≡ true → fine_first (condition_tokens condition ++ tokens) ≡ true
@@ -170,7 +171,7 @@ always_fine n first condition e written tokens is h =
     (and_from _ _ f.0 (expr_safe e (Sign (codes "<=")) (Sign (codes ";") ∷ Key (codes "end") ∷ tokens) f.1
     (semicolon_fine (Key (codes "end") ∷ tokens) (key_fine (codes "end") tokens refl h))))))
 
-item_fine : (item : ModItem) (written tokens : List Token) → IsItemText item written → fine_first tokens ≡ true → fine_first (written ++ tokens) ≡ true
+pub item_fine : (item : ModItem) (written tokens : List Token) → IsItemText item written → fine_first tokens ≡ true → fine_first (written ++ tokens) ≡ true
 unfolding class_of
 item_fine (Wire signed width n) written tokens is h = net_item_fine (codes "wire") refl signed width is.0 n written tokens is.1 is.2 h
 item_fine (Reg signed width n) written tokens is h = net_item_fine (codes "reg") refl signed width is.0 n written tokens is.1 is.2 h
@@ -186,25 +187,32 @@ items_fine (item ∷ items) [] tokens all h = absurd all
 items_fine (item ∷ items) (text ∷ written) tokens all h =
     ap fine_first (append_assoc text (flat_map (λ item. item) written) tokens) ∙ item_fine item text _ all.0 (items_fine items written tokens all.1 h)
 
+-- a module's text before its items
+pub header_fine : (attrs : List Attr) (n : List ℕ) (ports : List Port) (written : List (List Token))
+    (body : List Token) → ports ≢ [] → AllZip IsPortText ports written → fine_first body ≡ true
+    → fine_first (header attrs n written body) ≡ true
+unfolding class_of
+header_fine attrs n ports written body some each h =
+    let after : List Token = joined comma written ++ (Sign (codes ")") ∷ Sign (codes ";") ∷ body) in
+    attrs_fine attrs _ (key_fine (codes "module") (Identifier n ∷ Sign (codes "(") ∷ after) refl (name_fine n (Sign (codes "(") ∷ after)
+    (open_fine after (ports_safe ports written (Sign (codes ")") ∷ Sign (codes ";") ∷ body) some each (round_ends (Sign (codes ";") ∷ body) (semicolon_fine body h))))))
+
+pub end_fine : (tokens : List Token) → fine_first tokens ≡ true → fine_first (Key (codes "endmodule") ∷ tokens) ≡ true
+unfolding class_of
+end_fine tokens h = key_fine (codes "endmodule") tokens refl h
+
+-- a module, and what is behind it
+pub module_fine : (m : Module) (text tokens : List Token) → IsModuleText m text → fine_first tokens ≡ true → fine_first (text ++ tokens) ≡ true
+module_fine m text tokens is h =
+    ap fine_first (ap (λ t. t ++ tokens) is.text
+    ∙ behind (attrs_tokens m.attrs) (joined comma is.ports) (flat_map (λ item. item) is.items) tokens
+    (Key (codes "module")) (Identifier m.name) (Sign (codes "(")) (Sign (codes ")")) (Sign (codes ";"))
+    (Key (codes "endmodule")))
+    ∙ header_fine m.attrs m.name m.ports is.ports
+    (flat_map {X = List Token} {A = Token} (λ item. item) is.items ++ Key (codes "endmodule") ∷ tokens)
+    is.has_port is.each_port
+    (items_fine m.items is.items (Key (codes "endmodule") ∷ tokens) is.each_item (end_fine tokens h))
+
 -- the tokens of a module
 pub module_safe : (m : Module) (tokens : List Token) → IsModuleText m tokens → safe (Key []) tokens ≡ true
-unfolding class_of
-module_safe m tokens is =
-    ap (safe (Key [])) is.text
-    ∙ after_closing (Key []) _ (closes_key [])
-    (attrs_fine m.attrs _ (key_fine (codes "module")
-    (Identifier m.name ∷ Sign (codes "(")
-    ∷ (joined comma is.ports ++ Sign (codes ")") ∷ Sign (codes ";")
-    ∷ (flat_map {X = List Token} {A = Token} (λ item. item) is.items ++ Key (codes "endmodule") ∷ [])))
-    refl (name_fine m.name (Sign (codes "(")
-    ∷ (joined comma is.ports ++ Sign (codes ")") ∷ Sign (codes ";")
-    ∷ (flat_map {X = List Token} {A = Token} (λ item. item) is.items
-    ++ Key (codes "endmodule") ∷ [])))
-    (open_fine _ (ports_safe m.ports is.ports
-    (Sign (codes ")") ∷ Sign (codes ";")
-    ∷ (flat_map {X = List Token} {A = Token} (λ item. item) is.items ++ Key (codes "endmodule") ∷ []))
-    is.has_port is.each_port
-    (round_ends (Sign (codes ";") ∷ (flat_map {X = List Token} {A = Token} (λ item. item) is.items
-    ++ Key (codes "endmodule") ∷ [])) (semicolon_fine _
-    (items_fine m.items is.items (Key (codes "endmodule") ∷ []) is.each_item
-    (key_fine (codes "endmodule") [] refl refl)))))))))
+module_safe m tokens is = after_closing (Key []) tokens (closes_key []) (ap fine_first (sym (append-nil tokens)) ∙ module_fine m tokens [] is refl)

@@ -26,17 +26,17 @@ use Rattle.vl_read.proofs.ExpressionText.{frame_tokens, frames_tokens, frames_pu
 pub same_word : (lexeme word : List ℕ) → bytes_eq lexeme word ≡ true → lexeme ≡ word
 same_word lexeme word t = (bytes_eq-Decides lexeme word).0 t
 
-pub expected : (lexeme word : List ℕ) (x : Option Parser) (q : Parser) → cond (bytes_eq lexeme word) x None ≡ Some q → (lexeme ≡ word) × (x ≡ Some q)
+pub expected : {A : Type 0} (lexeme word : List ℕ) (x : Option A) (q : A) → cond (bytes_eq lexeme word) x None ≡ Some q → (lexeme ≡ word) × (x ≡ Some q)
 expected lexeme word x q e = let r = cond_some (bytes_eq lexeme word) x q e in (same_word lexeme word r.0, r.1)
 
-pub either_way : {R : Type 0} (t : Bool) (x y : Option Parser) (q : Parser) → (t ≡ true → x ≡ Some q → R) → (y ≡ Some q → R) → cond t x y ≡ Some q → R
+pub either_way : {R A : Type 0} (t : Bool) (x y : Option A) (q : A) → (t ≡ true → x ≡ Some q → R) → (y ≡ Some q → R) → cond t x y ≡ Some q → R
 either_way true x y q first second e = first refl e
 either_way false x y q first second e = second e
 
-pub either_word : {R : Type 0} (lexeme word : List ℕ) (x y : Option Parser) (q : Parser) → (lexeme ≡ word → x ≡ Some q → R) → (y ≡ Some q → R) → cond (bytes_eq lexeme word) x y ≡ Some q → R
+pub either_word : {R A : Type 0} (lexeme word : List ℕ) (x y : Option A) (q : A) → (lexeme ≡ word → x ≡ Some q → R) → (y ≡ Some q → R) → cond (bytes_eq lexeme word) x y ≡ Some q → R
 either_word lexeme word x y q first second e = either_way (bytes_eq lexeme word) x y q (λ t. first (same_word lexeme word t)) second e
 
-pub nowhere : {R : Type 0} (q : Parser) → None ≡ Some q → R
+pub nowhere : {R A : Type 0} (q : A) → None ≡ Some q → R
 nowhere q e = let no : ⊥ = cc in absurd no
 
 -- texts

@@ -1,2 +1,3 @@
+pub mod Designs
 pub mod Prefix
 pub mod inner

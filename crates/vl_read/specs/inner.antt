@@ -1,7 +1,10 @@
+pub mod DesignerFields
+pub mod Designs
 pub mod LexemeSteps
 pub mod Lexemes
 pub mod OperandForms
 pub mod Places
 pub mod Plain
 pub mod ReaderPlaces
+pub mod Scopes
 pub mod Turns

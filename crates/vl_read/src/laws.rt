@@ -3,7 +3,9 @@ ghost use Rattle.std.specs.Prelude.{◌≡◌, ◌≤◌, ℕ, List, length, Res
 ghost use Rattle.vl_ast.specs.declared.modules.Module.{Module};
 ghost use Rattle.vl_ast.specs.Grammar.{Spells, most_items};
 ghost use Rattle.vl_ast.specs.Spelling.{spelling};
+ghost use Rattle.vl_read.specs.declared.design.Design.{Design};
 ghost use Rattle.vl_read.specs.declared.fault.VlSyntax.{VlSyntax};
+ghost use Rattle.vl_read.specs.Designs.{SpellsDesign};
 ghost use Rattle.vl_read.specs.Prefix.{IsRefused, IsVerilogFaultLine, IfSyntax, IsReadBack};
 
 use vl_ast::spelling_spells;
@@ -12,6 +14,12 @@ use vl_ast::spelling_spells;
 pub fn unique()
     ensures { (bytes : List ℕ) (one other : Module)
         → Spells bytes one → Spells bytes other → one ≡ other }
+{}
+
+/// The bytes of a text spell at most one design.
+pub fn unique_design()
+    ensures { (bytes : List ℕ) (one other : Design)
+        → SpellsDesign bytes one → SpellsDesign bytes other → one ≡ other }
 {}
 
 /// The written text of a module spells it and no other, where some text spells it.

@@ -1,15 +1,22 @@
-ghost use Rattle.std.specs.Prelude.{◌≡◌, ◌≤◌, [], true, false, length, IfOk, option_and_then};
+ghost use Rattle.std.specs.Prelude.{◌≡◌, ◌≤◌, [], true, false, length, IfOk, None, option_and_then};
 ghost use Rattle.vl_ast.specs.Grammar.{Spells, most_items};
+ghost use Rattle.vl_read.specs.declared.designer.Scope.TheVariants.{Alone};
+ghost use Rattle.vl_read.specs.Designs.{IsDesignFaultLine, IsNoDesign, SpellsDesign, items_in};
+ghost use Rattle.vl_read.specs.inner.Designs.{design_reading, first_sketch, parse_design};
+ghost use Rattle.vl_read.specs.inner.DesignerFields.{gathered};
 ghost use Rattle.vl_read.specs.inner.Lexemes.{last_lexemes};
-ghost use Rattle.vl_read.specs.inner.Plain.{parse, reading, start};
+ghost use Rattle.vl_read.specs.inner.Plain.{parse};
 ghost use Rattle.vl_read.specs.Prefix.{IsRefused, IsVerilogFaultLine, IfSyntax};
+ghost use Rattle.vl_read.specs.inner.Scopes.{IsLineIn, IsNoText};
 ghost use Rattle.vl_read.specs.inner.ReaderPlaces.{seen};
 ghost use Rattle.vl_read.specs.inner.Turns.{IsBeyond, IsWithin, ahead, line_at};
 
+use crate::design::Design;
+use crate::designer::{Designer, Scope};
 use crate::fault::VlSyntax;
-use crate::places::Reader;
 use crate::scan::Mode;
 use crate::turns::{lexeme_end, mode_after};
+use fx_io::OutOfMemory;
 use std::alloc::Global;
 use vl_ast::Module;
 
@@ -31,31 +38,26 @@ fn is_within(mode: Mode) -> bool
     matches!(mode, Mode::Word | Mode::Mark)
 }
 
-/// The module at the end of the bytes. `None` where a text may not end so.
-fn last(reader: Reader, mode: Mode) -> Option<Module>
-    requires { IsBeyond mode }
-    ensures { result ≡ option_and_then (parse (seen reader)) (last_lexemes mode []) }
-{
-    match mode {
-        Mode::Between | Mode::LineComment => reader.finish(),
-        Mode::Word | Mode::Mark | Mode::Slash | Mode::BlockComment | Mode::Star => {
-            drop(reader);
-            None
-        }
-    }
+/// What was read of a text, and where the reading is behind it.
+struct Reading {
+    designer: Designer,
+    mode: Mode,
 }
 
-/// Reads the lexemes of the bytes, and tells where the reading is behind them.
-fn read_lexemes(bytes: &[u8], reader: &mut Reader) -> Result<Mode, VlSyntax>
-    requires first { seen reader.old ≡ start most_items }
-    ensures beyond { IfOk result IsBeyond }
-    ensures ahead { IfOk result (λ mode. reading most_items bytes.now
-        ≡ ahead (seen reader.new) mode [] []) }
-    ensures stops { IfOk result (λ mode. ahead (seen reader.new) mode [] [] ≡ None
-        → IsVerilogFaultLine bytes.now (line_at bytes.now)) }
-    ensures refused { IfSyntax result (λ _. IsRefused bytes.now) }
-    ensures line { IfSyntax result (λ line. IsVerilogFaultLine bytes.now line) }
+/// Reads the lexemes of the bytes.
+fn read_lexemes(alloc: Global, bytes: &[u8], scope: Scope) -> Result<Reading, VlSyntax>
+    ensures beyond { IfOk result (λ reading. IsBeyond reading.mode) }
+    ensures ahead { IfOk result (λ reading. design_reading scope most_items bytes.now
+        ≡ ahead (gathered reading.designer) reading.mode [] []) }
+    ensures alone { IfOk result (λ reading. scope ≡ Alone → gathered reading.designer
+        ≡ record (first_sketch Alone most_items) { parser = seen reading.designer.reader }) }
+    ensures stops { IfOk result (λ reading.
+        ahead (gathered reading.designer) reading.mode [] [] ≡ None
+        → IsLineIn scope bytes.now (line_at bytes.now)) }
+    ensures refused { IfSyntax result (λ _. IsNoText scope bytes.now) }
+    ensures line { IfSyntax result (λ line. IsLineIn scope bytes.now line) }
 {
+    let mut designer = Designer::new(alloc, scope, MOST_ITEMS);
     let mut mode = Mode::Between;
     let mut at = 0;
     while at < bytes.len() {
@@ -70,7 +72,7 @@ fn read_lexemes(bytes: &[u8], reader: &mut Reader) -> Result<Mode, VlSyntax>
             continue;
         }
         let end = lexeme_end(next, bytes, at);
-        if !reader.step(&bytes[at..end])? {
+        if !designer.step(&bytes[at..end])? {
             return Err(VlSyntax::Syntax {
                 line: line_at(&bytes[..end]),
             });
@@ -78,7 +80,36 @@ fn read_lexemes(bytes: &[u8], reader: &mut Reader) -> Result<Mode, VlSyntax>
         mode = Mode::Between;
         at = end;
     }
-    Ok(mode)
+    Ok(Reading { designer, mode })
+}
+
+/// The module at the end of the bytes. `None` where a text may not end so.
+fn last_module(designer: Designer, mode: Mode) -> Option<Module>
+    requires { IsBeyond mode }
+    ensures { result ≡ option_and_then (parse (seen designer.reader)) (last_lexemes mode []) }
+{
+    match mode {
+        Mode::Between | Mode::LineComment => designer.finish_alone(),
+        Mode::Word | Mode::Mark | Mode::Slash | Mode::BlockComment | Mode::Star => {
+            drop(designer);
+            None
+        }
+    }
+}
+
+/// The design at the end of the bytes. `None` where a text may not end so.
+fn last_design(designer: Designer, mode: Mode) -> Result<Option<Design>, OutOfMemory>
+    requires { IsBeyond mode }
+    ensures { IfOk result (λ found. found
+        ≡ option_and_then (parse_design (gathered designer)) (last_lexemes mode [])) }
+{
+    match mode {
+        Mode::Between | Mode::LineComment => designer.finish(),
+        Mode::Word | Mode::Mark | Mode::Slash | Mode::BlockComment | Mode::Star => {
+            drop(designer);
+            Ok(None)
+        }
+    }
 }
 
 /// Reads a Verilog text of the subset into its module (IEEE 1364-2005, of which the subset keeps the
@@ -94,17 +125,40 @@ pub fn read(alloc: Global, bytes: &[u8]) -> Result<Module, VlSyntax>
     ensures refused { IfSyntax result (λ _. IsRefused bytes.now) }
     ensures line { IfSyntax result (λ line. IsVerilogFaultLine bytes.now line) }
 {
-    let mut reader = Reader::new(alloc, MOST_ITEMS);
-    match read_lexemes(bytes, &mut reader) {
-        Err(fault) => {
-            drop(reader);
-            Err(fault)
-        }
-        Ok(mode) => match last(reader, mode) {
-            None => Err(VlSyntax::Syntax {
-                line: line_at(bytes),
-            }),
-            Some(module) => Ok(module),
-        },
+    let Reading { designer, mode } = match read_lexemes(alloc, bytes, Scope::Alone) {
+        Ok(reading) => reading,
+        Err(fault) => return Err(fault),
+    };
+    match last_module(designer, mode) {
+        None => Err(VlSyntax::Syntax {
+            line: line_at(bytes),
+        }),
+        Some(module) => Ok(module),
+    }
+}
+
+/// Reads the text of a design: modules one after another, and in the last of them instances of the
+/// others (IEEE 1364-2005, 12.1).
+///
+/// `VlSyntax::Syntax` has the line at which the bytes stop being the beginning of such a text, counted
+/// from 1.
+pub fn read_design(alloc: Global, bytes: &[u8]) -> Result<Design, VlSyntax>
+    // The bytes spell the design, which has at most 4,000,000 items, instances counted.
+    ensures found { IfOk result (λ design. SpellsDesign bytes.now design) }
+    ensures few { IfOk result (λ design. items_in design ≤ most_items) }
+    // A fault in the text comes only where they spell no such design.
+    ensures refused { IfSyntax result (λ _. IsNoDesign bytes.now) }
+    ensures line { IfSyntax result (λ line. IsDesignFaultLine bytes.now line) }
+{
+    let Reading { designer, mode } = match read_lexemes(alloc, bytes, Scope::Together) {
+        Ok(reading) => reading,
+        Err(fault) => return Err(fault),
+    };
+    match last_design(designer, mode) {
+        Err(OutOfMemory) => Err(VlSyntax::OutOfMemory),
+        Ok(None) => Err(VlSyntax::Syntax {
+            line: line_at(bytes),
+        }),
+        Ok(Some(design)) => Ok(design),
     }
 }

@@ -63,7 +63,7 @@ const CLASSES: &[ByteClass; 256] = &[
     OfNone, OfBlank, OfBlank, OfNone, OfNone, OfNone, OfNone, OfNone, OfNone, OfNone, OfNone,
     OfNone, OfNone, OfNone, OfNone, OfNone, OfNone, OfNone, OfNone, OfNone, OfNone, OfBlank,
     OfMark, OfNone, OfNone, OfWord, OfNone, OfMark, OfWord, OfMark, OfMark, OfMark, OfMark, OfMark,
-    OfMark, OfNone, OfComment, OfWord, OfWord, OfWord, OfWord, OfWord, OfWord, OfWord, OfWord,
+    OfMark, OfMark, OfComment, OfWord, OfWord, OfWord, OfWord, OfWord, OfWord, OfWord, OfWord,
     OfWord, OfWord, OfMark, OfMark, OfMark, OfMark, OfMark, OfMark, OfMark, OfWord, OfWord, OfWord,
     OfWord, OfWord, OfWord, OfWord, OfWord, OfWord, OfWord, OfWord, OfWord, OfWord, OfWord, OfWord,
     OfWord, OfWord, OfWord, OfWord, OfWord, OfWord, OfWord, OfWord, OfWord, OfWord, OfWord, OfMark,

@@ -19,7 +19,7 @@ abbrev pub is_word_byte : ℕ → Bool
 is_word_byte byte =
     is_ascii_alphanumeric byte || byte == code "_" || byte == code "$" || byte == code "'"
 
--- one of ( ) [ ] { } , ; : = @ ? + - * & | ^ ~ ! < >
+-- one of ( ) [ ] { } , ; : . = @ ? + - * & | ^ ~ ! < >
 abbrev pub is_mark_byte : ℕ → Bool
 is_mark_byte byte =
     byte == code "(" || byte == code ")" || byte == code "[" || byte == code "]"
@@ -27,7 +27,7 @@ is_mark_byte byte =
     || byte == code ":" || byte == code "=" || byte == code "@" || byte == code "?"
     || byte == code "+" || byte == code "-" || byte == code "*" || byte == code "&"
     || byte == code "|" || byte == code "^" || byte == code "~" || byte == code "!"
-    || byte == code "<" || byte == code ">"
+    || byte == code "<" || byte == code ">" || byte == code "."
 
 -- whether a byte is of a word, a blank, of a comment, of a mark, or none
 unfoldable pub class_of : ℕ → ByteClass

@@ -1,14 +1,15 @@
 -- Where the reading is after a byte, and the lexeme that a byte goes on with (own).
 use Prim.Native.Char.{code}
 use Rattle.std.specs.Prelude.{◌≡◌, ℕ, ◌+◌, ◌-◌, ◌<◌, ◌==◌, Bool, true, false, if◌then◌else◌, ⊤, List, [], ◌∷◌, get_or, take, drop, count_by, Option, Some, None, option_and_then}
-use Rattle.vl_ast.specs.declared.modules.Module.{Module}
+use Rattle.vl_read.specs.declared.design.Design.{Design}
 use Rattle.vl_read.specs.declared.scan.ByteClass.{ByteClass}
 use Rattle.vl_read.specs.declared.scan.ByteClass.TheVariants.{OfWord, OfBlank, OfComment, OfMark, OfNone}
 use Rattle.vl_read.specs.declared.scan.Mode.{Mode}
 use Rattle.vl_read.specs.declared.scan.Mode.TheVariants.{Between, Word, Mark, Slash, LineComment, BlockComment, Star}
 use Rattle.vl_read.specs.inner.Places.{Parser}
 use Rattle.vl_read.specs.inner.Lexemes.{class_of, continues, lexemes_from}
-use Rattle.vl_read.specs.inner.Plain.{step, parse}
+use Rattle.vl_read.specs.inner.Designs.{Sketch, sketch_step, parse_design}
+use Rattle.vl_read.specs.inner.Plain.{step}
 
 -- after a byte outside of comments that goes on with no lexeme
 abbrev pub mode_by : ByteClass → Option Mode
@@ -59,14 +60,24 @@ abbrev pub GoOn : Mode → List ℕ → ℕ → ℕ → Type 0
 GoOn mode bytes start end =
     (place : ℕ) → start < place → place < end → goes_on_at mode bytes start place ≡ true
 
+-- the state after some lexemes, by what one does
+abbrev pub feed_by : {S : Type 0} → (S → List ℕ → Option S) → S → List (List ℕ) → Option S
+feed_by step state [] = Some state
+feed_by step state (lexeme ∷ lexemes) =
+    option_and_then (λ next. feed_by step next lexemes) (step state lexeme)
+
 -- the parser after some lexemes
 abbrev pub feed : Parser → List (List ℕ) → Option Parser
-feed parser [] = Some parser
-feed parser (lexeme ∷ lexemes) = option_and_then (λ next. feed next lexemes) (step parser lexeme)
+feed = feed_by step
+
+-- the sketch after them
+abbrev pub gather : Sketch → List (List ℕ) → Option Sketch
+gather = feed_by sketch_step
 
 -- what the bytes that are left make of what was read
-abbrev pub ahead : Parser → Mode → List ℕ → List ℕ → Option Module
-ahead parser mode lexeme bytes = option_and_then (parse parser) (lexemes_from mode lexeme bytes)
+abbrev pub ahead : Sketch → Mode → List ℕ → List ℕ → Option Design
+ahead sketch mode lexeme bytes =
+    option_and_then (parse_design sketch) (lexemes_from mode lexeme bytes)
 
 -- the parser, where the reading goes on
 abbrev pub stepped : Bool → Parser → Option Parser
