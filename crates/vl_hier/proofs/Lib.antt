@@ -1,0 +1,4 @@
+mod DeclarationTests
+mod Filters
+mod LinkTests
+mod Refusals

@@ -1,0 +1,4 @@
+pub mod Fault
+pub mod Flat
+pub mod Linked
+pub mod inner

@@ -1,0 +1,20 @@
+//! Designs: a module, the top, in which others stand, and the one module that they are together.
+//!
+//! `read` gives the design of a text, and `flat` its one module: what the instances hold stands in the
+//! top, behind their names. The definitions are in `specs/`: `Linked` says when an instance is linked as
+//! it must be, `Flat` what the flat module of a design is, and `Fault` why there is none; the grammar of
+//! a design's text stands in `vl_read`.
+#![tactic(auto)]
+
+mod copying;
+mod flattening;
+mod items;
+mod linking;
+mod links;
+mod reading;
+mod refusal;
+
+pub use flattening::flat;
+pub use reading::read;
+pub use refusal::HierFault;
+pub use vl_read::Design;
