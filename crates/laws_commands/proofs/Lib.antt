@@ -5,5 +5,6 @@ pub mod Ready
 pub mod Replays
 pub mod Samples
 pub mod Schedules
+pub mod Stimuli
 pub mod Texts
 pub mod Walks

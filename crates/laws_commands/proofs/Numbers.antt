@@ -22,8 +22,8 @@ use Rattle.dg_tables.specs.Laws.{IsOrdered, SolvedIsInRange, TypesAreValid}
 use Rattle.dg_response.specs.Response.{input_columns, number_in, shown, stimulus_of}
 use Rattle.math_list.proofs.Indices.{by-places}
 use Rattle.dg_response.proofs.Single.{is-shown}
-use Rattle.dg_response.proofs.Stimuli.{are-columns}
 use Rattle.laws_commands.proofs.Ready.{Schedules, ready-in, some-step}
+use Rattle.laws_commands.proofs.Stimuli.{rows-stimulate}
 use Rattle.cmd_generate.proofs.Ports.{cycles-told, input-at, output-numbers, output-of, outputs-are, outputs-many, stalls}
 use Rattle.math_list.proofs.Places.{there_map, there_within}
 use Rattle.hw_arcs.specs.Latencies.{latency_at}
@@ -79,7 +79,7 @@ module _ (laws : Laws) {core : Module} {diagram : Diagram} {plan : Resolved} {ti
   window = window_of s.count
 
   in-range : IsStimulus diagram A stimulus rows.lines
-  in-range = laws.made diagram A (number_in rows) rows.lines ordered.checked.wired (are-columns diagram rows many fits)
+  in-range = rows-stimulate laws.made diagram ordered.checked.wired rows many fits
 
   -- every row behind that with `reset` counts
   all : AllCount core window s.inputs

@@ -1,5 +1,11 @@
 -- What the program's commands say of one another, for all texts (own).
 use Rattle.std.specs.Prelude.{◌≡◌, ℕ, ◌≤◌, List, length}
+use Rattle.dg_model.specs.declared.diagram.Diagram.{Diagram}
+use Rattle.dg_model.specs.Attributes.{attributes_of}
+use Rattle.dg_model.specs.Checked.{IsChecked}
+use Rattle.dg_model.specs.Solves.{IsStimulus}
+use Rattle.dg_response.specs.Response.{stimulus_of}
+use Rattle.dg_tables.specs.Laws.{IsOrdered}
 use Rattle.cmd_generate.specs.Generated.{IsVerilogOf}
 use Rattle.cmd_replay.specs.Benched.{IsTold}
 use Rattle.cmd_replay.specs.Replayed.{CanBeReplayed, IsBadStimulus, IsReplayOf}
@@ -68,3 +74,17 @@ abbrev pub SamplesAgree : Type 0
 SamplesAgree =
     (count : ℕ) (told text : List ℕ) (summary : IsSummaryOf IsTold count told text)
     → length summary.own.items ≤ most_items → told ≡ summary.response
+
+-- ---- tables
+
+-- the blocks of a diagram that keeps the rules have an order along the instant edges
+abbrev pub DiagramsAreOrdered : Type 0
+DiagramsAreOrdered =
+    (diagram : Diagram) → IsChecked diagram → (order : List ℕ) × IsOrdered diagram order
+
+-- the rows of a simulation give each root input a number in range at each of its hits
+abbrev pub SimulationsAreStimulated : Type 0
+SimulationsAreStimulated =
+    (model stimulus text : List ℕ) (simulation : IsSimulationOf model stimulus text)
+    → IsStimulus simulation.diagram (attributes_of simulation.diagram)
+    (stimulus_of simulation.diagram simulation.rows) simulation.rows.lines

@@ -1,5 +1,5 @@
 //! What the definitions together say. Each law is a function that does nothing.
-ghost use Rattle.laws_commands.specs.Laws.{BadReplayedIsSimulated, BadSimulatedIsReplayed, ReplayedIsSimulated, ReplaysAreResponses, ReplaysAreSimulations, SamplesAgree, SimulatedIsReplayed, SimulationsAreReplays};
+ghost use Rattle.laws_commands.specs.Laws.{BadReplayedIsSimulated, BadSimulatedIsReplayed, DiagramsAreOrdered, ReplayedIsSimulated, ReplaysAreResponses, ReplaysAreSimulations, SamplesAgree, SimulatedIsReplayed, SimulationsAreReplays, SimulationsAreStimulated};
 ghost use Rattle.laws_commands.specs.inner.LawsBelow.{AreKnown};
 
 /// What the crates below say together.
@@ -46,6 +46,14 @@ pub fn replays_are_as_simulations()
 /// where the module isn't too long to be read.
 pub fn samples_agree()
     ensures { SamplesAgree }
+{
+    all_are_known();
+}
+
+/// The rows of a simulation are a stimulus of its model's diagram, whose blocks have an order.
+pub fn simulations_are_stimulated()
+    ensures ordered { DiagramsAreOrdered }
+    ensures stimulated { SimulationsAreStimulated }
 {
     all_are_known();
 }
