@@ -1,4 +1,6 @@
 mod Comparisons
+mod FilterRows
+mod Filters
 mod Limits
 mod NetlistRows
 mod Netlists
