@@ -10,9 +10,12 @@ use Rattle.cmd_generate.specs.Generated.{IsVerilogOf}
 use Rattle.cmd_replay.specs.Benched.{IsTold}
 use Rattle.cmd_replay.specs.Replayed.{CanBeReplayed, IsBadStimulus, IsReplayOf}
 use Rattle.fx_tables.specs.declared.table.TableCause.{TableCause}
+use Rattle.fx_top.specs.Call.{file_limit}
 use Rattle.fx_top.specs.Simulated.{CanBeSimulated, IsBadSimulation, IsSimulationOf}
 use Rattle.fx_top.specs.Summarized.{IsSummaryOf}
+use Rattle.vl_ast.specs.declared.modules.Module.{Module}
 use Rattle.vl_ast.specs.Grammar.{most_items}
+use Rattle.vl_ast.specs.Spelling.{spelling}
 
 -- ---- replays and simulations
 
@@ -64,6 +67,33 @@ BadSimulatedIsReplayed =
     (model plan verilog stimulus : List ℕ) (line : ℕ) (cause : TableCause)
     (generated : IsVerilogOf model plan verilog)
     → length generated.written.made.items ≤ most_items
+    → IsBadSimulation model stimulus line cause → IsBadStimulus verilog stimulus line cause
+
+-- ---- texts that a file can hold
+
+-- a module whose written text is no longer than a file may be isn't too long to be read
+abbrev pub HeldModulesAreRead : Type 0
+HeldModulesAreRead =
+    (made : Module) → length (spelling made) ≤ file_limit → length made.items ≤ most_items
+
+-- so a simulation of the model is a replay of such a text
+abbrev pub SimulationsAreReplaysOfFiles : Type 0
+SimulationsAreReplaysOfFiles =
+    (model plan verilog stimulus response : List ℕ) → IsVerilogOf model plan verilog
+    → length verilog ≤ file_limit → IsSimulationOf model stimulus response
+    → IsReplayOf verilog stimulus response
+
+-- a stimulus of the model is one by which such a text can be replayed
+abbrev pub SimulatedIsReplayedOfFiles : Type 0
+SimulatedIsReplayedOfFiles =
+    (model plan verilog stimulus : List ℕ) → IsVerilogOf model plan verilog
+    → length verilog ≤ file_limit → CanBeSimulated model stimulus → CanBeReplayed verilog stimulus
+
+-- and the first bad line for the model is so for such a text, with its cause
+abbrev pub BadSimulatedIsReplayedOfFiles : Type 0
+BadSimulatedIsReplayedOfFiles =
+    (model plan verilog stimulus : List ℕ) (line : ℕ) (cause : TableCause)
+    → IsVerilogOf model plan verilog → length verilog ≤ file_limit
     → IsBadSimulation model stimulus line cause → IsBadStimulus verilog stimulus line cause
 
 -- ---- samples

@@ -1,4 +1,5 @@
 //! What the definitions together say. Each law is a function that does nothing.
+ghost use Rattle.laws_commands.specs.Laws.{BadSimulatedIsReplayedOfFiles, HeldModulesAreRead, SimulatedIsReplayedOfFiles, SimulationsAreReplaysOfFiles};
 ghost use Rattle.laws_commands.specs.Laws.{BadReplayedIsSimulated, BadSimulatedIsReplayed, DiagramsAreOrdered, ReplayedIsSimulated, ReplaysAreResponses, ReplaysAreSimulations, SamplesAgree, SimulatedIsReplayed, SimulationsAreReplays, SimulationsAreStimulated};
 ghost use Rattle.laws_commands.specs.inner.LawsBelow.{AreKnown};
 
@@ -38,6 +39,17 @@ pub fn replays_are_as_simulations()
     ensures simulated { SimulatedIsReplayed }
     ensures bad_replayed { BadReplayedIsSimulated }
     ensures bad_simulated { BadSimulatedIsReplayed }
+{
+    all_are_known();
+}
+
+/// No generated text that a file can hold is too long to be read, so simulations of its model are
+/// replays of it, and the model's stimuli and their bad lines are its own.
+pub fn files_are_replayed()
+    ensures few { HeldModulesAreRead }
+    ensures simulations { SimulationsAreReplaysOfFiles }
+    ensures simulated { SimulatedIsReplayedOfFiles }
+    ensures bad_simulated { BadSimulatedIsReplayedOfFiles }
 {
     all_are_known();
 }

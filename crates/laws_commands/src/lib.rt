@@ -2,7 +2,8 @@
 //!
 //! `simulate` works out the equations of a model's diagram, and `replay` runs the module that a Verilog
 //! text spells. Of the text that `generate` writes of that model and any plan the two say the same,
-//! byte for byte (`replays_are_responses`), and of the same stimuli (`replays_are_as_simulations`); so
+//! byte for byte (`replays_are_responses`), and of the same stimuli (`replays_are_as_simulations`), also
+//! where the text is only known to be no longer than a file may be (`files_are_replayed`); so
 //! what a sample compares agrees (`samples_agree`). The rows of a simulation are a stimulus of its
 //! model's diagram, whose blocks have an order (`simulations_are_stimulated`).
 #![tactic(auto)]
@@ -10,5 +11,6 @@
 mod laws;
 
 pub use laws::{
-    replays_are_as_simulations, replays_are_responses, samples_agree, simulations_are_stimulated,
+    files_are_replayed, replays_are_as_simulations, replays_are_responses, samples_agree,
+    simulations_are_stimulated,
 };
