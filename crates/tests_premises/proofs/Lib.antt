@@ -1,12 +1,17 @@
+pub mod Checks
 pub mod Neighbours
+pub mod Streams
 pub mod Three
 pub mod WholeDesign
+pub mod WholeFindings
 pub mod WholeNames
 pub mod WholeOwed
 pub mod WholePaths
 pub mod WholePlan
 pub mod WholeRules
 pub mod WholeRuns
+pub mod WholeStreams
 pub mod WholeTable
 pub mod WholeText
+pub mod WholeTimes
 pub mod WholeWaves

@@ -1,7 +1,12 @@
 -- Modules and a plan that are one item wrong are not owed.
-use Rattle.std.proofs.Common.{◌≡◌, ◌≢◌, ℕ, ◌+◌, ◌*◌, List, [], ◌∷◌, Some, length, Contains, refl, sym, ap, subst, ◌∙◌, arith}
+use Rattle.std.proofs.Common.{◌≡◌, ◌≢◌, ⊎_elim, ℕ, ◌+◌, ◌*◌, List, [], ◌∷◌, Some, length, Contains, refl, sym, ap, subst, ◌∙◌, arith, codes}
+use Rattle.std.specs.Prelude.{slice_index, slice_index_or}
+use Rattle.std.specs.Fmt.{digits}
 use Rattle.std.proofs.Math.Dec.{lit<}
+use Rattle.std.proofs.lemmas.Bool.{cases_eq}
+use Rattle.std.proofs.lemmas.Option.{same_Some}
 use Rattle.dg_model.specs.Attributes.{attributes_of}
+use Rattle.cmd_check.specs.Paths.{IsTightPath}
 use Rattle.dg_model.specs.Hits.{Hits}
 use Rattle.dg_model.specs.Signals.{Attributes}
 use Rattle.hw_arcs.specs.Latencies.{latency_at}
@@ -9,6 +14,7 @@ use Rattle.hw_build.specs.Multiplied.{multiplication_name}
 use Rattle.hw_build.specs.Pipelined.{stage_name}
 use Rattle.hw_build.specs.Serving.{clock_of}
 use Rattle.hw_module.specs.Design.{IsModuleOf}
+use Rattle.hw_names.specs.Names.{IsNumbered, numbered}
 use Rattle.hw_sched.specs.Laws.{IsOperation}
 use Rattle.hw_sched.specs.Slots.{operation, slot_of, unit_of}
 use Rattle.hw_shows.proofs.RuleTests.{Columns, IsTried, attributes_in, attributes_tried}
@@ -21,7 +27,7 @@ use Rattle.vl_ast.specs.Items.{IsWire, registers}
 use Rattle.vl_ast.specs.Nets.{names_read, names_step}
 use Rattle.tests_premises.specs.Neighbours.{AreNotOwed, crowded, crowded_diagram, crowded_timing}
 use Rattle.tests_premises.specs.Owed.{plain, plain_timing, twice, twice_timing}
-use Rattle.tests_premises.specs.Whole.{diagram, int8, int16, resolved, timing}
+use Rattle.tests_premises.specs.Whole.{arcs, diagram, int8, int16, resolved, timing}
 use Rattle.tests_premises.proofs.WholeOwed.{whole_modules_owe}
 
 -- ---- the crowded plan
@@ -81,5 +87,29 @@ not_read m reader there other owed =
 not_unnamed : (m : Module) → ¬ IsWire m (multiplication_name 1 1) → ¬ IsModuleOf m diagram plain plain_timing
 not_unnamed m lacks owed = lacks ((whole_modules_owe.unshared m owed).wires 1 (lit< tt))
 
+not_late : ¬ IsTightPath arcs timing.lat 2 (2 ∷ [])
+not_late path =
+    let first : 2 ≡ path.first = same_Some 2 path.first path.begins in
+    let late : latency_at timing.lat 2 ≡ 0 = subst (λ (block : ℕ). latency_at timing.lat block ≡ 0) (sym first) path.early in
+    absurd (omega (arith, late))
+
+only-one : (name : List ℕ) → Contains (codes "a" ∷ []) name → codes "a" ≡ name
+only-one name (k, below, is) = ap (λ (place : ℕ). slice_index_or (codes "a" ∷ []) place name) (let first : 0 ≡ k = omega (arith, below) in first) ∙ is
+
+second-name : numbered (codes "a") 2 ≡ codes "a_2"
+unfolding digits
+second-name = refl
+
+not_greater : ¬ IsNumbered (codes "a" ∷ []) (codes "a") (codes "a_3")
+not_greater given = ⊎_elim
+    (λ (second : given.number ≡ 2).
+    let same : codes "a_3" ≡ codes "a_2" = given.is ∙ ap (numbered (codes "a")) second ∙ second-name in
+    let byte : 51 ≡ 50 = ap (λ (name : List ℕ). slice_index name 2) same in absurd (omega (arith, byte)))
+    (λ (later : given.number ≡ 2 → ⊥).
+    let low = given.above in
+    let same : codes "a" ≡ codes "a_2" = only-one (numbered (codes "a") 2) (given.least 2 (omega arith) (omega (arith, low, later))) ∙ second-name in
+    let byte : 0 ≡ 95 = ap (λ (name : List ℕ). slice_index name 1) same in absurd (omega (arith, byte)))
+    (cases_eq given.number 2)
+
 pub are_not_owed : AreNotOwed
-are_not_owed = record { overfull = not_crowded; seventh = not_seventh; read_between = not_read; unnamed = not_unnamed }
+are_not_owed = record { overfull = not_crowded; seventh = not_seventh; read_between = not_read; unnamed = not_unnamed; late = not_late; greater = not_greater }

@@ -1,5 +1,5 @@
 -- The plan of the whole model keeps its rules on the diagram, and gives these numbers and times.
-use Rattle.std.proofs.Common.{◌≡◌, ℕ, zero, suc, ◌+◌, ◌≤◌, ◌<◌, true, List, [], ◌∷◌, Some, refl, sym, ap, subst, arith}
+use Rattle.std.proofs.Common.{◌≡◌, ℕ, zero, suc, ◌+◌, ◌≤◌, ◌<◌, List, Some, refl, sym, ap, subst, arith}
 use Rattle.std.specs.Prelude.{slice_index}
 use Rattle.std.proofs.Math.Dec.{lit<, lit≤}
 use Rattle.std.proofs.lemmas.Option.{none-some, same_Some}
@@ -21,7 +21,7 @@ use Rattle.hw_sched.specs.Storage.{KeepsSize, greatest_latency, storage}
 use Rattle.math_list.proofs.ByRecursion.{all_of}
 use Rattle.hw_shows.proofs.Small.{each_by}
 use Rattle.tests_premises.specs.Sharing.{AreSharedByOne}
-use Rattle.tests_premises.specs.Whole.{diagram, pipeline, plan, resolved, timing}
+use Rattle.tests_premises.specs.Whole.{arc, arcs, diagram, pipeline, plan, resolved, timing}
 use Rattle.tests_premises.proofs.WholeRules.{attributes, attributes_known, checked, gain_block}
 use Rattle.tests_premises.proofs.WholePaths.{depths, fed}
 
@@ -67,13 +67,7 @@ is_plan = record {
 }
 
 -- ---- latencies
-abbrev arc : ℕ → ℕ → ℕ → Arc
-arc from to gain = record { from = from; to = to; counts = true; gain = gain; slack = 0 }
-
-abbrev arcs : List Arc
-arcs = arc 0 1 0 ∷ arc 1 2 1 ∷ []
-
-arcs_are : arcs_with diagram attributes resolved timing.fed ≡ arcs
+pub arcs_are : arcs_with diagram attributes resolved timing.fed ≡ arcs
 arcs_are = refl
 
 at_least : (other : List ℕ) → IsFeasible arcs other → (block : ℕ) → latency_at timing.lat block ≤ latency_at other block

@@ -24,15 +24,15 @@ use Rattle.tests_premises.specs.Whole.{firsts, seconds}
 use Rattle.vl_ast.proofs.SomeInputs.{bits-fit}
 
 -- ---- a module with these ports
-abbrev ports : List Port
+abbrev pub ports : List Port
 ports = bit_input (codes "clk") ∷ bit_input (codes "reset") ∷ bit_input (codes "clk_enable")
     ∷ input_of (codes "u_0") ∷ input_of (codes "u_1") ∷ bit_output (codes "ce_out") ∷ output_of (codes "y_0")
     ∷ output_of (codes "y_1") ∷ []
 
-abbrev whole : List ModItem → Module
+abbrev pub whole : List ModItem → Module
 whole items = record { name = codes "fx_model"; attrs = attribute_of (codes "fx_cycles") 3 ∷ []; ports = ports; items = items }
 
-by_header : (m : Module) → HasHeader m 3 input_ports output_ports → m ≡ whole m.items
+pub by_header : (m : Module) → HasHeader m 3 input_ports output_ports → m ≡ whole m.items
 by_header m h =
     ap (λ (name : List ℕ). record m { name = name }) h.name
     ∙ ap (λ (attrs : List Attr). record m { name = codes "fx_model"; attrs = attrs }) h.attrs

@@ -28,9 +28,9 @@ use Rattle.dg_model.specs.RootElements.{root_element}
 use Rattle.tests_premises.specs.Running.{RunsWhole, input_ports, output_ports, window}
 use Rattle.hw_shows.proofs.Small.{int8_valid}
 use Rattle.tests_premises.specs.Shown.{MultipliesNumbers, ShowsWhole, WholeModulesShow, gain_block}
-use Rattle.tests_premises.specs.Whole.{coefficients, diagram, firsts, five, int8, resolved, seconds, shown, stimulus, table, three, timing}
+use Rattle.tests_premises.specs.Whole.{coefficients, diagram, firsts, five, int8, resolved, seconds, shown, stimulus, table, three, timing, whole_names}
 use Rattle.tests_premises.proofs.WholeRules.{attributes_known, gain_period, gain_shown}
-use Rattle.tests_premises.proofs.WholeNames.{names_are, whole_names}
+use Rattle.tests_premises.proofs.WholeNames.{names_are}
 use Rattle.tests_premises.proofs.WholePlan.{shared}
 use Rattle.tests_premises.proofs.WholeRuns.{whole_modules_run}
 use Rattle.tests_premises.proofs.WholeTable.{in_range, solves}
@@ -43,7 +43,7 @@ outputs_are : map (λ (e : NamedElement). output_port (output_data diagram resol
 outputs_are = refl
 
 -- an output
-abbrev out_element : List ℕ → ℕ → NamedElement
+abbrev pub out_element : List ℕ → ℕ → NamedElement
 out_element name element = record { name = name; root = root_element (attributes_of diagram) 1 2 element }
 
 out_elements_are : output_elements whole_names diagram ≡ out_element (codes "y_0") 0 ∷ out_element (codes "y_1") 1 ∷ []
@@ -84,22 +84,23 @@ is_operation : (number element : ℕ) → slice_get (operation 1 0 ∷ operation
     ≡ Some (operation 1 element) → IsOperation diagram (attributes_of diagram) resolved number (operation 1 element)
 is_operation number element at = subst (λ (operations : List Operation). slice_get operations number ≡ Some (operation 1 element)) (sym shared.both) at
 
+-- ---- its ports are those of the design
+names_known : (m : Module) (owed : IsModuleOf m diagram resolved timing) → owed.carries.names ≡ whole_names
+names_known m owed = names_are owed.carries.names owed.carries.are_names
+
+pub header_of : (m : Module) → IsModuleOf m diagram resolved timing → HasHeader m 3 input_ports output_ports
+header_of m owed =
+    subst (λ (ports : List Port). HasHeader m 3 input_ports ports) outputs_are
+    (subst (λ (ports : List Port). HasHeader m 3 ports (map (λ e. output_port (output_data diagram resolved timing e)) (output_elements whole_names diagram))) inputs_are
+    (subst (λ (names : List (List ℕ)). HasHeader m 3
+    (map (λ e. input_port (input_data e)) (input_elements names diagram))
+    (map (λ e. output_port (output_data diagram resolved timing e)) (output_elements names diagram)))
+    (names_known m owed) owed.carries.header))
+
 module _ (some : (m : Module) (count : ℕ) (start : Row) (inputs : Rows) → BreaksNone m → HasRoom m count start inputs → HasRows m count start inputs)
     (m : Module) (start : Row) (owed : IsModuleOf m diagram resolved timing) (fits : StartFits m start) where
-  names_known : owed.carries.names ≡ whole_names
-  names_known = names_are owed.carries.names owed.carries.are_names
-
-  header : HasHeader m 3 input_ports output_ports
-  header =
-      subst (λ (ports : List Port). HasHeader m 3 input_ports ports) outputs_are
-      (subst (λ (ports : List Port). HasHeader m 3 ports (map (λ e. output_port (output_data diagram resolved timing e)) (output_elements whole_names diagram))) inputs_are
-      (subst (λ (names : List (List ℕ)). HasHeader m 3
-      (map (λ e. input_port (input_data e)) (input_elements names diagram))
-      (map (λ e. output_port (output_data diagram resolved timing e)) (output_elements names diagram)))
-      names_known owed.carries.header))
-
   run : RunsWhole m start
-  run = whole_modules_run some m start header owed.carries.sound fits
+  run = whole_modules_run some m start (header_of m owed) owed.carries.sound fits
 
   abbrev driven : IsDrivenRun m diagram 3 window stimulus table run.rows
   driven = record { start = start; inputs = run.inputs; in_range = in_range; solves = solves; driven = run.driven; runs = run.runs }
@@ -112,7 +113,7 @@ module _ (some : (m : Module) (count : ℕ) (start : Row) (inputs : Rows) → Br
       → OutputShows m diagram resolved timing 3 window run.inputs table run.rows (out_element name element)
   output_shows name element place at =
       owed.carries.bits 3 window stimulus table run.rows driven place (out_element name element)
-      (subst (λ (names : List (List ℕ)). slice_get (output_elements names diagram) place ≡ Some (out_element name element)) (sym names_known) at)
+      (subst (λ (names : List (List ℕ)). slice_get (output_elements names diagram) place ≡ Some (out_element name element)) (sym (names_known m owed)) at)
 
   output_is : (name : List ℕ) (element place : ℕ) → slice_get (output_elements whole_names diagram) place ≡ Some (out_element name element) → (t : ℕ) → t < 3
       → run.rows (row_at window (t * 3 + 5)) name ≡ bits_of 16 (shown element t)

@@ -1,7 +1,10 @@
+pub mod Explored
 pub mod Neighbours
 pub mod Owed
 pub mod Premises
 pub mod Running
 pub mod Sharing
 pub mod Shown
+pub mod Streams
+pub mod Told
 pub mod Whole

@@ -6,16 +6,18 @@ use Rattle.dg_model.specs.declared.diagram.Block.{Block}
 use Rattle.dg_model.specs.declared.diagram.Diagram.{Diagram}
 use Rattle.dg_model.specs.declared.kind.Kind.TheVariants.{Inport, Gain}
 use Rattle.dg_model.specs.declared.resolved.Resolved.{Resolved}
+use Rattle.cmd_check.specs.Paths.{IsTightPath}
 use Rattle.hw_build.specs.Multiplied.{multiplication_name}
 use Rattle.hw_build.specs.Pipelined.{stage_name}
 use Rattle.hw_module.specs.Design.{IsModuleOf}
+use Rattle.hw_names.specs.Names.{IsNumbered}
 use Rattle.hw_sched.specs.Slots.{Timing}
 use Rattle.vl_ast.specs.declared.expressions.Expr.TheVariants.{Name}
 use Rattle.vl_ast.specs.declared.modules.Module.{Module}
 use Rattle.vl_ast.specs.declared.modules.ModItem.TheVariants.{Assign}
 use Rattle.vl_ast.specs.Items.{IsWire, registers}
 use Rattle.tests_premises.specs.Owed.{plain, plain_timing, twice, twice_timing}
-use Rattle.tests_premises.specs.Whole.{block_of, diagram, edge_of, five, int8, int16, output, resolved, three, timing}
+use Rattle.tests_premises.specs.Whole.{arcs, block_of, diagram, edge_of, five, int8, int16, output, resolved, three, timing}
 
 -- ---- three elements by one multiplier in two clocks: the third stands in the clock of the first of
 -- the next base sample
@@ -50,7 +52,9 @@ crowded_timing =
     record { lat = 0 ∷ 0 ∷ 1 ∷ []; fed = false ∷ true ∷ true ∷ []; depths = 0 ∷ 1 ∷ 1 ∷ [] }
 
 -- ---- no module is owed of the crowded plan, none with a seventh register, none in which another
--- name than the second register is assigned the first, and none that lacks the wire of a product
+-- name than the second register is assigned the first, and none that lacks the wire of a product; a
+-- path that begins at a late block tells no latency, and no number is given to a name where a lesser
+-- one is free
 pub record AreNotOwed : Type 0 where
   pub overfull : (m : Module) → ¬ IsModuleOf m crowded_diagram crowded crowded_timing
   pub seventh : (m : Module) → length (registers m) ≡ 7 → ¬ IsModuleOf m diagram resolved timing
@@ -59,3 +63,5 @@ pub record AreNotOwed : Type 0 where
       → ¬ IsModuleOf m diagram twice twice_timing
   pub unnamed : (m : Module) → ¬ IsWire m (multiplication_name 1 1)
       → ¬ IsModuleOf m diagram plain plain_timing
+  pub late : ¬ IsTightPath arcs timing.lat 2 (2 ∷ [])
+  pub greater : ¬ IsNumbered (codes "a" ∷ []) (codes "a") (codes "a_3")

@@ -19,6 +19,7 @@ use Rattle.dg_model.specs.declared.plan.Pipeline.{Pipeline}
 use Rattle.dg_model.specs.declared.plan.Plan.{Plan}
 use Rattle.dg_model.specs.declared.resolved.Resolved.{Resolved}
 use Rattle.dg_model.specs.Signals.{Stimulus, Table}
+use Rattle.hw_arcs.specs.declared.arc.Arc.{Arc}
 use Rattle.hw_sched.specs.Slots.{Timing}
 
 -- ---- the texts
@@ -81,6 +82,14 @@ resolved = record { cycles = 3; multipliers = 1; stages = 0 ∷ 1 ∷ 0 ∷ [] }
 abbrev pub timing : Timing
 timing = record { lat = 0 ∷ 0 ∷ 1 ∷ []; fed = false ∷ true ∷ true ∷ []; depths = 0 ∷ 1 ∷ 1 ∷ [] }
 
+-- ---- what the latencies keep: the Gain has its register before the output
+abbrev pub arc : ℕ → ℕ → ℕ → Arc
+arc from to gain = record { from = from; to = to; counts = true; gain = gain; slack = 0 }
+
+-- that into the Gain and that behind it
+abbrev pub arcs : List Arc
+arcs = arc 0 1 0 ∷ arc 1 2 1 ∷ []
+
 -- ---- three base samples
 abbrev pub firsts : ℕ → ℤ
 firsts t = slice_index_or (pos 1 ∷ negsuc 1 ∷ pos 127 ∷ []) t (pos 0)
@@ -109,3 +118,7 @@ stimulus number element t = given element t
 abbrev pub table : Table
 table zero port element t = given element t
 table (suc block) port element t = shown element t
+
+-- ---- the names of its ports
+abbrev pub whole_names : List (List ℕ)
+whole_names = codes "u_0" ∷ codes "u_1" ∷ codes "y_0" ∷ codes "y_1" ∷ []

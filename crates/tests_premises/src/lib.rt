@@ -4,5 +4,6 @@
 mod laws;
 
 pub use laws::{
-    neighbours_are_not_owed, whole_model, whole_modules, whole_modules_owe, whole_modules_show,
+    checks_tell, explores_tell, neighbours_are_no_streams, neighbours_are_not_owed, streams_owe,
+    whole_model, whole_modules, whole_modules_owe, whole_modules_show,
 };
