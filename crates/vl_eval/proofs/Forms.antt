@@ -25,7 +25,8 @@ use Rattle.vl_eval.specs.inner.OperatorSteps.{unary_op, binary_op}
 use Rattle.std.proofs.lemmas.Nat.Bits.{shr_and_one}
 use Rattle.vl_eval.proofs.Words.{unary-gives, whole-gives, together-gives, alone-gives, extension, as-it-is, select-gives, put-beside}
 use Rattle.vl_eval.specs.inner.PlaceBits.{NamesFit, row_of, Shows}
-use Rattle.vl_eval.proofs.Fits.{sound, left-room, right-room, value-fits, beside-fits}
+use Rattle.vl_eval.proofs.Copies.{bit-copies}
+use Rattle.vl_eval.proofs.Fits.{sound, left-room, right-room, value-fits, beside-fits, extended-fits}
 
 pub settled-before : (base : ℕ) (ops more : List Op) (values : ℕ → ℕ) → IsSettled base (ops ++ more) values → IsSettled base ops values
 settled-before base ops more values s = record {
@@ -293,6 +294,26 @@ module _ (by_layer : ByLayer) (base : ℕ) (nets : List ℕ → Net) (slot_of : 
         subst (λ n. n < 2 ^ (l + w)) (sym (beside-snoc (bits_of values) (bits_in nets (row values) w sg part)))
         (beside-fits (fold beside 0 (bits_of values)) l (bits_in nets (row values) w sg part) (h.fits values before room)
         (subst (λ x. x < 2 ^ w) rb (value-below ops b w sg part v values before (sub values room))));
+  }
+
+  -- copies of a bit
+  pub shows-bit-copies : (ops : List Op) (a w count : ℕ) (sg : Bool) (part : Expr) → w ≡ 1 → 0 < count → count ≤ 128 → Value ops a w sg part
+      → ShowsBeside (ops ++ One (Extended (2 ^ (1 - 1)) (2 ^ count - 2 ^ 1)) a ∷ []) (base + length ops) count (λ values. replicate count (bits_in nets (row values) w sg part)) (names_read part)
+  shows-bit-copies ops a w count sg part one some most v = record {
+    below = last-below ops (One (Extended (2 ^ (1 - 1)) (2 ^ count - 2 ^ 1)) a);
+    is = λ values s room.
+        let before = settled-before base ops (One (Extended (2 ^ (1 - 1)) (2 ^ count - 2 ^ 1)) a ∷ []) values s in
+        let rb = v.here.is values before room in
+        let low : values a < 2 ^ 1 = subst (λ n. values a < 2 ^ n) one (value-below ops a w sg part v values before room) in
+        last-value base ops (One (Extended (2 ^ (1 - 1)) (2 ^ count - 2 ^ 1)) a) values s
+        ∙ extension (word 1 true (values a)) count refl low some most
+        ∙ ap (λ x. extended (word 1 true x) count) rb
+        ∙ bit-copies count (bits_in nets (row values) w sg part) one (subst (λ x. x < 2 ^ 1) rb low) some;
+    fits = λ values s room.
+        let before = settled-before base ops (One (Extended (2 ^ (1 - 1)) (2 ^ count - 2 ^ 1)) a ∷ []) values s in
+        let rb = v.here.is values before room in
+        let low : value_in nets (row values) w sg part < 2 ^ 1 = subst (λ x. x < 2 ^ 1) rb (subst (λ n. values a < 2 ^ n) one (value-below ops a w sg part v values before room)) in
+        subst (λ n. n < 2 ^ count) (bit-copies count (bits_in nets (row values) w sg part) one low some) (extended-fits (word 1 true (value_in nets (row values) w sg part)) count low some);
   }
 
   -- beside what has no bits

@@ -2,6 +2,7 @@ pub mod Assigns
 pub mod Bias
 pub mod Builds
 pub mod Captures
+pub mod Copies
 pub mod EdgeBits
 pub mod Edges
 pub mod Fits

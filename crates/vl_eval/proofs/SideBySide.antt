@@ -1,6 +1,6 @@
 -- The operations of parts and of copies that stand side by side, added one behind another.
-use Rattle.std.proofs.Common.{◌≡◌, ◌<◌, ◌≤◌, ◌+◌, ◌*◌, ◌^◌, inl, inr, ℕ, zero, suc, max, sum, Bool, true, false, List, [], ◌∷◌, ◌++◌, length, map, flat_map, replicate, Contains, refl, sym, ap, subst}
-use Rattle.std.proofs.Common.{◌∙◌, arith, take, drop, slice_index_or}
+use Rattle.std.proofs.Common.{◌≡◌, ◌<◌, ◌≤◌, ◌+◌, ◌*◌, ◌-◌, ◌^◌, inl, inr, ℕ, zero, suc, max, sum, Bool, true, false, List, [], ◌∷◌, ◌++◌, length, map, flat_map, replicate, Contains, refl, sym, ap}
+use Rattle.std.proofs.Common.{subst, ◌∙◌, arith, take, drop, slice_index_or}
 use Rattle.std.proofs.lemmas.Bool.{false≢true}
 use Rattle.std.proofs.Math.Nat.{mul-le-mul_right}
 use Rattle.std.proofs.lemmas.List.{map-append, take-append-drop, take_all, take_more}
@@ -23,12 +23,13 @@ use Rattle.vl_check.specs.declared.shapes.Shape.{Shape}
 use Rattle.vl_check.specs.Scope.{nets_in}
 use Rattle.vl_eval.specs.declared.adding.Additions.{Additions}
 use Rattle.vl_eval.specs.declared.ops.Op.{Op}
-use Rattle.vl_eval.specs.declared.ops.Op.TheVariants.{Constant, Beside}
+use Rattle.vl_eval.specs.declared.ops.Op.TheVariants.{Constant, One, Beside}
+use Rattle.vl_eval.specs.declared.ops.OneOp.TheVariants.{Extended}
 use Rattle.vl_eval.specs.inner.Ops.{IsSettled}
-use Rattle.vl_eval.specs.inner.PlaceBits.{NamesFit, row_of, Grows, IfFine, Pushed, IsBeside}
+use Rattle.vl_eval.specs.inner.PlaceBits.{NamesFit, row_of, Grows, IfFine, Pushed, IsBeside, IsExtended}
 use Rattle.vl_eval.specs.declared.site.Alone.{Alone}
 use Rattle.vl_eval.specs.inner.Site.{ArePlaced, Built, BuiltAlone, slot_in}
-use Rattle.vl_eval.proofs.Forms.{Value, shows-op, ShowsBeside, still-beside, shows-beside, shows-first, shows-concat, shows-repeat}
+use Rattle.vl_eval.proofs.Forms.{Value, shows-op, ShowsBeside, still-beside, shows-beside, shows-bit-copies, shows-first, shows-concat, shows-repeat}
 use Rattle.vl_eval.proofs.Operands.{length-concat, sign-concat, sound-concat, sound-repeat}
 use Rattle.vl_eval.proofs.Builds.{grows-more, grows-none, grows-push, shows-later, ends, value, stays, alone-of, settled-later}
 
@@ -254,6 +255,28 @@ module _ (by_layer : ByLayer) (base : ℕ) (scope : Scope) (slots : List ℕ) wh
     where
       one-more : (c w : ℕ) → c * w + w ≡ (c + 1) * w
       one-more c w = grind arith
+
+  -- copies of a bit at once
+  pub copied-bit : (before mid after : List Op) (s slot count : ℕ) (part : Expr) (inner : Shape)
+      → is_sound nets part ≡ true → inner.length ≡ own_length nets part → inner.signed ≡ is_signed nets part
+      → inner.length ≡ 1 → 0 < count → count ≤ 128
+      → Here before mid s inner.length inner.signed part → IsExtended base mid after slot s 1 count → Copied before after slot count count part
+  copied-bit before mid after s slot count part inner ok l g one some most b (inl (same, place, ops)) =
+      subst (λ zs. Copied before zs slot count count part) (sym ops)
+      (subst (λ k. Copied before mid k count count part) (sym place)
+      (subst (λ n. Copied before mid s n n part) same
+      (subst (λ n. Copied before mid s n 1 part) one (copied-one before mid s part inner ok l g b))))
+  copied-bit before mid after s slot count part inner ok l g one some most b (inr p) =
+      let own = own_length nets part in
+      let single : own ≡ 1 = sym l ∙ one in
+      let v = value by_layer base scope slots mid s own (is_signed nets part) part ok (omega arith) (alone-of by_layer base scope slots mid s part inner l g b.shows) in
+      record {
+        grows = grows-more base before mid after b.grows (grows-push base mid after slot (One (Extended (2 ^ (1 - 1)) (2 ^ count - 2 ^ 1)) s) (v.here.below, tt) p);
+        long = (let e = ap (λ n. count * n) single in omega (arith, e));
+        shows = subst (λ k. ShowsBeside by_layer base nets at after k count (λ values. replicate count (one-bits part values)) (names_read part)) (sym p.place)
+            (subst (λ ops. ShowsBeside by_layer base nets at ops (base + length mid) count (λ values. replicate count (one-bits part values)) (names_read part)) (sym p.grown)
+            (shows-bit-copies by_layer base nets at mid s own count (is_signed nets part) part single some most v));
+      }
 
   -- the operand of the copies, behind further operations
   pub value-at : (before mid now : List Op) (s : ℕ) (part : Expr) (inner : Shape) → is_sound nets part ≡ true → inner.length ≡ own_length nets part → inner.signed ≡ is_signed nets part

@@ -149,6 +149,11 @@ fn build_copies(ops: &mut Additions, site: &Site<'_, '_>, count: u32, part: &Exp
         (Repeat count part.now) result.slot }
 {
     let own = build_alone(ops, site, part);
+    if own.shape.length == 1 {
+        // copies of a bit are what its sign would put on its left
+        let slot = extend(ops, site.base, own.slot, 1, count);
+        return unsigned_slot(slot, count);
+    }
     let mut joined = own.slot;
     let mut length = own.shape.length;
     for _copy in 1..count {

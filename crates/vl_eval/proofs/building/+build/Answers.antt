@@ -1,4 +1,4 @@
-use Rattle.std.proofs.Common.{◌≡◌, ◌+◌, ◌*◌, [], ℕ, List, false, map, sum, take, refl, sym, ap, subst, ◌∙◌, arith}
+use Rattle.std.proofs.Common.{◌≡◌, ◌≤◌, ◌+◌, ◌*◌, [], ℕ, List, false, map, sum, take, refl, sym, ap, subst, ◌∙◌, arith}
 use Rattle.vl_ast.specs.declared.expressions.Expr.{Expr}
 use Rattle.vl_ast.specs.declared.expressions.Expr.TheVariants.{Name, Bit, Part, Concat, Repeat, AsSigned, Unary, Binary, Shift, Choose}
 use Rattle.vl_ast.specs.Context.{own_length}
@@ -14,8 +14,8 @@ use Rattle.std.proofs.lemmas.List.{take_all}
 use Rattle.vl_eval.proofs.Operands.{sound-unary, names-unary, sound-as-signed, length-as-signed, names-as-signed, sound-as-unsigned, names-as-unsigned, sound-binary, names-binary, sound-shift}
 use Rattle.vl_eval.proofs.Operands.{length-shift, names-shift, sound-choose, length-choose, sound-repeat, length-repeat, sign-repeat, names-repeat, sound-concat, names-concat}
 use Rattle.vl_eval.proofs.Rooms.{room-in, unary-room, left-fits, right-fits}
-use Rattle.vl_eval.proofs.SideBySide.{Copied, Joined, beside-grows, built-copies, built-no-parts, built-parts, concat-alone, copied-more, copied-one, copied-room, copies-few, joined-all, joined-more}
-use Rattle.vl_eval.proofs.SideBySide.{lengths-more, one-copy, part-in, part-placed, part-size, part-sound, parts-few, parts-more, shows-alone-too, value-at}
+use Rattle.vl_eval.proofs.SideBySide.{Copied, Joined, beside-grows, built-copies, built-no-parts, built-parts, concat-alone, copied-bit, copied-more, copied-one, copied-room, copies-few, joined-all}
+use Rattle.vl_eval.proofs.SideBySide.{joined-more, lengths-more, one-copy, part-in, part-placed, part-size, part-sound, parts-few, parts-more, shows-alone-too, value-at}
 use Rattle.vl_eval.proofs.Builds.{behind, both-fine, fine-as, built-unary, built-binary, built-as-signed, built-as-signed-plain, built-as-unsigned, built-shift, built-choice, grows-more, grows-none}
 use Rattle.vl_eval.proofs.Builds.{placed-choose, placed-left, placed-right, placed-later}
 use Rattle.vl_eval.proofs.building.+build.Given as given
@@ -301,6 +301,60 @@ build_copies-build_alone-own-requires t c =
     let names = placed site c.args.ops.now _ _ (names-repeat nets c.args.count c.args.part.now) c.requires.placed in
     (omega arith, record { by_layer = c.requires.by_layer; sound = ok.1; placed = names })
 
+-- how long copies of a bit are
+bit-length : (count length' own : ℕ) → length' ≡ own → length' ≡ 1 → count * own ≤ 128 → (count * own ≡ count) × (count ≤ 128)
+bit-length count length' own long one few =
+    let all : count * own ≡ count * 1 = ap (λ (n : ℕ). count * n) (sym long ∙ one) in
+    (omega (arith, all), omega (arith, all, few))
+
+pub build_copies-extend-slot-requires-clause-longer : goal.build_copies-extend-slot-requires-clause-longer
+build_copies-extend-slot-requires-clause-longer t c =
+    let ok = sound-repeat (nets_in c.args.site.now.scope.now) c.args.count c.args.part.now c.requires.sound in
+    omega (arith, ok.0)
+
+pub build_copies-extend-slot-requires-clause-most : goal.build_copies-extend-slot-requires-clause-most
+build_copies-extend-slot-requires-clause-most t c =
+    let nets = nets_in c.args.site.now.scope.now in
+    let ok = sound-repeat nets c.args.count c.args.part.now c.requires.sound in
+    let own = c.build_alone-own in
+    (bit-length c.args.count own.result.shape.length (own_length nets c.args.part.now) own.ensures.length c.if-own-eq1.true ok.2).1
+
+pub build_copies-returns-then-own-eq1-clause-built : goal.build_copies-returns-then-own-eq1-clause-built
+build_copies-returns-then-own-eq1-clause-built t c = λ context fine.
+    let site = c.args.site.now in
+    let by_layer = c.requires.by_layer in
+    let nets = nets_in site.scope.now in
+    let part = c.args.part.now in
+    let ok = sound-repeat nets c.args.count part c.requires.sound in
+    let own = c.build_alone-own in
+    let one = c.if-own-eq1.true in
+    let few = bit-length c.args.count own.result.shape.length (own_length nets part) own.ensures.length one ok.2 in
+    let e = c.extend-slot.ensures fine in
+    let b = own.ensures.built e.0 in (
+      b.0,
+      subst (λ slot. Built site.base site.scope.now site.slots.now c.args.ops.now.code c.extend-slot.new.ops.code
+          slot context.length context.signed (Repeat c.args.count part)) (sym c.unsigned_slot.ensures.slot)
+          (built-copies by_layer site.base site.scope.now site.slots.now c.args.count part c.args.ops.now.code
+          c.extend-slot.new.ops.code c.extend-slot.result c.args.count context.length context.signed
+          (copied-bit by_layer site.base site.scope.now site.slots.now c.args.ops.now.code own.new.ops.code
+          c.extend-slot.new.ops.code own.result.slot c.extend-slot.result c.args.count part own.result.shape
+          ok.1 own.ensures.length own.ensures.sign one ok.0 few.1 b.1 e.1)),
+    )
+
+pub build_copies-returns-then-own-eq1-clause-own : goal.build_copies-returns-then-own-eq1-clause-own
+build_copies-returns-then-own-eq1-clause-own t c =
+    let site = c.args.site.now in
+    let nets = nets_in site.scope.now in
+    let part = c.args.part.now in
+    let ok = sound-repeat nets c.args.count part c.requires.sound in
+    let own = c.build_alone-own in
+    let few = bit-length c.args.count own.result.shape.length (own_length nets part) own.ensures.length c.if-own-eq1.true ok.2 in
+    let l = length-repeat nets c.args.count part in
+    shows-alone-too c.requires.by_layer site.base site.scope.now site.slots.now c.args.ops.now c.extend-slot.new.ops (Repeat c.args.count part) c.unsigned_slot.result
+    (c.unsigned_slot.ensures.length ∙ sym few.0 ∙ sym l)
+    (sign-repeat nets c.args.count part) (omega (arith, l, ok.2)) c.unsigned_slot.ensures.sign
+    (build_copies-returns-then-own-eq1-clause-built t c)
+
 pub build_copies-loop-copy-init : goal.build_copies-loop-copy-init
 build_copies-loop-copy-init t c =
     let site = c.args.site.now in
@@ -377,7 +431,7 @@ build_copies-returns-clause-built t c = λ context fine.
     let copied = c.loop-copy.invariant.copied fine in (
       copied.0,
       subst (λ slot. Built site.base site.scope.now site.slots.now c.args.ops.now.code c.loop-copy.ops.code
-          slot context.length context.signed (Repeat c.args.count c.args.part.now)) (sym c.unsigned_slot.ensures.slot)
+          slot context.length context.signed (Repeat c.args.count c.args.part.now)) (sym c.unsigned_slot-2.ensures.slot)
           (built-copies by_layer site.base site.scope.now site.slots.now c.args.count c.args.part.now
           c.args.ops.now.code c.loop-copy.ops.code c.loop-copy.joined c.loop-copy.length context.length
           context.signed (subst (λ n. Copied by_layer site.base site.scope.now site.slots.now
@@ -392,10 +446,10 @@ build_copies-returns-clause-own t c =
     let ok = sound-repeat nets c.args.count c.args.part.now c.requires.sound in
     let all : c.loop-copy._copy ≡ c.args.count = omega (arith, ok.0) in
     let l = length-repeat nets c.args.count c.args.part.now in
-    shows-alone-too c.requires.by_layer site.base site.scope.now site.slots.now c.args.ops.now c.loop-copy.ops (Repeat c.args.count c.args.part.now) c.unsigned_slot.result
-    (c.unsigned_slot.ensures.length ∙ c.loop-copy.invariant.long
+    shows-alone-too c.requires.by_layer site.base site.scope.now site.slots.now c.args.ops.now c.loop-copy.ops (Repeat c.args.count c.args.part.now) c.unsigned_slot-2.result
+    (c.unsigned_slot-2.ensures.length ∙ c.loop-copy.invariant.long
     ∙ ap (λ (n : ℕ). n * own_length nets c.args.part.now) all ∙ sym l)
-    (sign-repeat nets c.args.count c.args.part.now) (omega (arith, l, ok.2)) c.unsigned_slot.ensures.sign
+    (sign-repeat nets c.args.count c.args.part.now) (omega (arith, l, ok.2)) c.unsigned_slot-2.ensures.sign
     (build_copies-returns-clause-built t c)
 
 pub build_parts-loop-part-init : goal.build_parts-loop-part-init
