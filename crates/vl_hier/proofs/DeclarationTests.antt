@@ -7,14 +7,8 @@ use Rattle.vl_ast.specs.declared.modules.ModItem.{ModItem}
 use Rattle.vl_ast.specs.declared.modules.ModItem.TheVariants.{Wire, Reg, Assign, Always}
 use Rattle.vl_ast.specs.declared.modules.Module.{Module}
 use Rattle.vl_ast.specs.declared.modules.Port.{Port}
-use Rattle.vl_ast.specs.Nets.{Declared, Declares, PlainWire, Reads, Register, condition_names, declarations, declared_by, item_mentions, names_read, port_declared}
-
--- what an item declares
-abbrev pub item_declared : ModItem → List Declared
-item_declared (Wire signed width name) = record { name = name; kind = PlainWire; net = record { width = width; signed = signed } } ∷ []
-item_declared (Reg signed width name) = record { name = name; kind = Register; net = record { width = width; signed = signed } } ∷ []
-item_declared (Assign name value) = []
-item_declared (Always name first condition value) = []
+use Rattle.vl_ast.specs.Nets.{Declared, Declares, Reads, condition_names, declarations, declared_by, item_mentions, names_read, port_declared}
+use Rattle.vl_hier.specs.inner.Nets.{item_declared}
 
 reads-none : (names : List (List ℕ)) → flat_map declared_by (map Reads names) ≡ []
 reads-none [] = refl

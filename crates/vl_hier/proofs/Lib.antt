@@ -1,4 +1,9 @@
 mod DeclarationTests
 mod Filters
+mod LeastName
 mod LinkTests
+mod LookUps
+mod NamePlaces
+mod NetKeys
 mod Refusals
+mod TableTests

@@ -1,5 +1,5 @@
 -- The tests of the code say when an instance is linked as it must be.
-use Rattle.std.proofs.Common.{◌≡◌, ℕ, ◌==◌, Bool, true, false, not, ◌&&◌, ◌||◌, if◌then◌else◌, List, bytes_eq, count_by, Option, None, Some, refl, sym, ap, ◌∙◌}
+use Rattle.std.proofs.Common.{◌≡◌, ℕ, ◌==◌, Bool, true, false, not, ◌&&◌, ◌||◌, List, bytes_eq, count_by, Option, None, Some, refl, sym, ap, ◌∙◌}
 use Rattle.std.specs.Prelude.{nat_eq}
 use Rattle.std.specs.List.{list_all, list_any, starts_with}
 use Rattle.std.proofs.Math.Bool.{and-true, or-false}
@@ -15,11 +15,12 @@ use Rattle.vl_inner.specs.Names.{inner_name, is_shared}
 use Rattle.vl_names.specs.Identifiers.{is_identifier}
 use Rattle.vl_hier.specs.Linked.{IsLinked, IsLinkedIn, fits, head_of, is_net_for, is_of_port, links_of, module_of}
 use Rattle.vl_hier.specs.inner.Tests.{are_words, has_net, is_linked, is_linked_to, item_begins, item_fits, item_is_word, link_fits, net_begins, port_fits}
-use Rattle.vl_hier.proofs.DeclarationTests.{all-declared, any-declared, item_declared}
+use Rattle.vl_hier.specs.inner.Nets.{item_declared}
+use Rattle.vl_hier.proofs.DeclarationTests.{all-declared, any-declared}
 
 -- ---- each part, of what a module declares
 
-item-net : (port : Port) (net : List ℕ) (i : ModItem) → list_any (is_net_for port net) (item_declared i) ≡ item_fits port net i
+pub item-net : (port : Port) (net : List ℕ) (i : ModItem) → list_any (is_net_for port net) (item_declared i) ≡ item_fits port net i
 item-net port net (Wire signed width name) = or-false (item_fits port net (Wire signed width name))
 item-net port net (Reg signed width name) = or-false (item_fits port net (Reg signed width name))
 item-net port net (Assign name value) = refl

@@ -1,5 +1,5 @@
 -- Why a design is flattened, or refused at an instance.
-use Rattle.std.proofs.Common.{◌≡◌, ℕ, zero, suc, Bool, true, List, [], ◌∷◌, ◌++◌, Contains, take, drop, None, Some, ⊎_elim, ap, subst}
+use Rattle.std.proofs.Common.{◌≡◌, ◌<◌, ℕ, zero, suc, Bool, true, List, [], ◌∷◌, ◌++◌, Contains, take, drop, get_or, length, map, None, Some, ⊎_elim, ap, subst, sym, ◌∙◌, arith}
 use Rattle.std.specs.List.{list_all, slice_get}
 use Rattle.std.proofs.lemmas.Bool.{and_parts}
 use Rattle.std.proofs.lemmas.Option.{none-some, same_Some}
@@ -17,6 +17,12 @@ cut-here : {A : Type 0} (xs : List A) (k : ℕ) (x : A) → slice_get xs k ≡ S
 cut-here [] k x at = absurd (none-some x at)
 cut-here (y ∷ xs) zero x at = ap (λ z. z ∷ xs) (same_Some y x at)
 cut-here (y ∷ xs) (suc k) x at = ap (λ zs. y ∷ zs) (cut-here xs k x at)
+
+-- at a place of a list, and at the same place of what was made of each of its elements
+pub head-at : {A B : Type 0} (f : A → B) (xs : List A) (i : ℕ) → i < length xs → (x : A) → x ≡ get_or xs i x → (h : B) → h ≡ get_or (map f xs) i h → h ≡ f x
+head-at f [] i below x is h made = absurd (omega (arith, below))
+head-at f (y ∷ xs) zero below x is h made = made ∙ ap f (sym is)
+head-at f (y ∷ xs) (suc i) below x is h made = head-at f xs i (omega (arith, below)) x is h made
 
 each-passes : {A : Type 0} (test : A → Bool) (xs : List A) → list_all test xs ≡ true → (x : A) → Contains xs x → test x ≡ true
 each-passes test [] e x there = absurd (none-in x there)

@@ -1,6 +1,5 @@
 -- A design as one module: what its instances hold stands in the top, behind their names (own).
-use Rattle.std.specs.Prelude.{◌≡◌, ℕ, not, ◌&&◌, Bool, if◌then◌else◌, List, [], ◌∷◌, ◌++◌, map, flat_map, filter, bytes_eq, Option, Some, None}
-use Rattle.std.specs.List.{list_any}
+use Rattle.std.specs.Prelude.{◌≡◌, ℕ, not, ◌&&◌, Bool, false, if◌then◌else◌, List, [], ◌∷◌, ◌++◌, map, flat_map, filter, bytes_eq, find, Option, Some, None}
 use Rattle.vl_ast.specs.declared.designs.Instance.{Instance}
 use Rattle.vl_ast.specs.declared.designs.Link.{Link}
 use Rattle.vl_ast.specs.declared.expressions.Expr.TheVariants.{Name}
@@ -34,9 +33,14 @@ nets_by head None = []
 nets_by head (Some m) =
     flat_map (port_wire head) m.ports ++ map (renamed_item (inner_name head)) (declaring m.items)
 
--- whether one of the ports is an input of this name
+-- whether there is a port, and it is an input
+abbrev pub is_some_input : Option Port → Bool
+is_some_input None = false
+is_some_input (Some port) = port.input
+
+-- whether the first port of this name is an input
 abbrev pub is_input : List Port → List ℕ → Bool
-is_input ports name = list_any (λ port. bytes_eq port.name name && port.input) ports
+is_input ports name = is_some_input (find (λ port. bytes_eq port.name name) ports)
 
 -- an input takes the net without
 abbrev pub inward : List Port → List ℕ → Link → List ModItem

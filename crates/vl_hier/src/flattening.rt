@@ -5,14 +5,15 @@ ghost use Rattle.vl_ast.specs.Listing.{Holds, Lists};
 ghost use Rattle.vl_hier.specs.declared.refusal.HierFault.{HierFault};
 ghost use Rattle.vl_hier.specs.Fault.{IfLink, IfSyntax, IsBadFirst};
 ghost use Rattle.vl_hier.specs.Flat.{IsFlatOf, drivers_by, flat_items, nets_by};
-ghost use Rattle.vl_hier.specs.Linked.{HasAllLinked, module_of};
-ghost use Rattle.vl_hier.specs.inner.Tests.{IsFirstBad};
+ghost use Rattle.vl_hier.specs.Linked.{HasAllLinked};
+ghost use Rattle.vl_hier.specs.inner.Tables.{module_by};
 
 use crate::copying::{copied_attrs, copied_ports};
 use crate::items::{Part, put_part, put_wires};
-use crate::linking::{is_linked, module_of};
-use crate::links::{Way, put_links};
+use crate::links::put_links;
 use crate::refusal::HierFault;
+use crate::tables::Modules;
+use crate::unlinked::first_bad;
 use fx_io::{OutOfMemory, Text};
 use std::alloc::Global;
 use vl_ast::{Instance, Listing, ModItem, ModItems, Module, begin, finish};
@@ -20,10 +21,10 @@ use vl_inner::{Naming, renamed_is_same};
 use vl_read::Design;
 
 /// Puts what an instance declares, if its module is there.
-fn put_nets(alloc: Global, out: &mut Listing<ModItem>, below: &[Module], one: &Instance)
-    ensures { Lists out.old out.new (nets_by one.now.name (module_of below.now one.now.of)) }
+fn put_nets(alloc: Global, out: &mut Listing<ModItem>, modules: &Modules<'_>, one: &Instance)
+    ensures { Lists out.old out.new (nets_by one.now.name (module_by modules.now one.now.of)) }
 {
-    if let Some(of) = module_of(below, one.of.bytes()) {
+    if let Some(of) = modules.named(one.of.bytes()) {
         let name = one.name.bytes();
         put_wires(alloc, out, name, of.ports.as_slice());
         put_part(
@@ -37,14 +38,13 @@ fn put_nets(alloc: Global, out: &mut Listing<ModItem>, below: &[Module], one: &I
 }
 
 /// Puts what an instance drives, if its module is there.
-fn put_drivers(alloc: Global, out: &mut Listing<ModItem>, below: &[Module], one: &Instance)
-    ensures { Lists out.old out.new (drivers_by one.now (module_of below.now one.now.of)) }
+fn put_drivers(alloc: Global, out: &mut Listing<ModItem>, modules: &Modules<'_>, one: &Instance)
+    ensures { Lists out.old out.new (drivers_by one.now (module_by modules.now one.now.of)) }
 {
-    if let Some(of) = module_of(below, one.of.bytes()) {
+    if let Some(of) = modules.named(one.of.bytes()) {
         let name = one.name.bytes();
         let (ports, links) = (of.ports.as_slice(), one.links.as_slice());
-        put_links(alloc, out, Way::Inward, ports, name, links);
-        put_links(alloc, out, Way::Outward, ports, name, links);
+        put_links(alloc, out, ports, name, links);
         put_part(
             alloc,
             out,
@@ -55,21 +55,26 @@ fn put_drivers(alloc: Global, out: &mut Listing<ModItem>, below: &[Module], one:
     }
 }
 
-fn put_all_nets(alloc: Global, out: &mut Listing<ModItem>, below: &[Module], all: &[Instance])
+fn put_all_nets(alloc: Global, out: &mut Listing<ModItem>, modules: &Modules<'_>, all: &[Instance])
     ensures { Lists out.old out.new
-        (flat_map (λ (i : Instance). nets_by i.name (module_of below.now i.of)) all.now) }
+        (flat_map (λ (i : Instance). nets_by i.name (module_by modules.now i.of)) all.now) }
 {
     for one in all {
-        put_nets(alloc, out, below, one);
+        put_nets(alloc, out, modules, one);
     }
 }
 
-fn put_all_drivers(alloc: Global, out: &mut Listing<ModItem>, below: &[Module], all: &[Instance])
+fn put_all_drivers(
+    alloc: Global,
+    out: &mut Listing<ModItem>,
+    modules: &Modules<'_>,
+    all: &[Instance],
+)
     ensures { Lists out.old out.new
-        (flat_map (λ (i : Instance). drivers_by i (module_of below.now i.of)) all.now) }
+        (flat_map (λ (i : Instance). drivers_by i (module_by modules.now i.of)) all.now) }
 {
     for one in all {
-        put_drivers(alloc, out, below, one);
+        put_drivers(alloc, out, modules, one);
     }
 }
 
@@ -83,30 +88,14 @@ fn flat_items(
     ensures { IfOk result (λ items. items ≡ flat_items below.now top.now instances.now) }
 {
     renamed_is_same();
+    let modules = Modules::of(alloc, below)?;
     let items = top.items.as_slice();
     let mut out = begin(alloc);
     put_part(alloc, &mut out, Naming::Kept, Part::Nets, items);
-    put_all_nets(alloc, &mut out, below, instances);
+    put_all_nets(alloc, &mut out, &modules, instances);
     put_part(alloc, &mut out, Naming::Kept, Part::Drivers, items);
-    put_all_drivers(alloc, &mut out, below, instances);
+    put_all_drivers(alloc, &mut out, &modules, instances);
     finish(out)
-}
-
-/// The place of the first instance that isn't linked as it must be. The only error is want of memory.
-fn first_bad(
-    alloc: Global,
-    below: &[Module],
-    top: &Module,
-    instances: &[Instance],
-) -> Result<Option<usize>, OutOfMemory>
-    ensures { IfOk result (λ place. IsFirstBad instances.now below.now top.now place) }
-{
-    for (place, one) in instances.iter().enumerate() {
-        if !is_linked(alloc, instances, below, top, one)? {
-            return Ok(Some(place));
-        }
-    }
-    Ok(None)
 }
 
 /// The flat module of a design: its top, with what the instances hold in place of them. `Link` has the

@@ -3,16 +3,22 @@
 //! `read` gives the design of a text, and `flat` its one module: what the instances hold stands in the
 //! top, behind their names. The definitions are in `specs/`: `Linked` says when an instance is linked as
 //! it must be, `Flat` what the flat module of a design is, and `Fault` why there is none; the grammar of
-//! a design's text stands in `vl_read`.
+//! a design's text stands in `vl_read`. Names are looked up in trees (`index`, `names`, `nets`), so the
+//! time doesn't grow with instances times nets or ports times links.
 #![tactic(auto)]
 
 mod copying;
 mod flattening;
+mod index;
 mod items;
 mod linking;
 mod links;
+mod names;
+mod nets;
 mod reading;
 mod refusal;
+mod tables;
+mod unlinked;
 
 pub use flattening::flat;
 pub use reading::read;

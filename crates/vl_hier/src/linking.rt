@@ -1,42 +1,26 @@
-//! Whether the instances of a design are linked as they must be.
-ghost use Rattle.std.specs.Prelude.{◌≡◌, ◌++◌, ◌&&◌, ◌==◌, nat_eq, IfOk, codes, count_by, bytes_eq, find, option_map};
-ghost use Rattle.std.specs.List.{list_all, list_any, starts_with};
-ghost use Rattle.vl_ast.specs.Drivers.{declares};
+//! Whether instances are linked as they must be. Each look-up is by a name: what is held to the length
+//! of a text goes over it once.
+ghost use Rattle.std.specs.Prelude.{◌≡◌, IfOk, List};
+ghost use Rattle.std.specs.List.{list_all};
 ghost use Rattle.vl_ast.specs.declared.designs.Instance.{Instance};
 ghost use Rattle.vl_ast.specs.declared.designs.Link.{Link};
+ghost use Rattle.vl_ast.specs.declared.modules.Module.{Module};
 ghost use Rattle.vl_ast.specs.declared.modules.Port.{Port};
-ghost use Rattle.vl_hier.specs.Linked.{has_word, is_named, is_of_port, links_of, module_of};
+ghost use Rattle.vl_ast.specs.Drivers.{declares};
+ghost use Rattle.vl_hier.specs.Linked.{head_of};
+ghost use Rattle.vl_hier.specs.inner.Index.{found_in, has_place};
+ghost use Rattle.vl_hier.specs.inner.Nets.{AreNets, top_declared};
+ghost use Rattle.vl_hier.specs.inner.Tables.{AreTables, is_led, leads_by};
 ghost use Rattle.vl_hier.specs.inner.Tests as test;
 
-use fx_io::{OutOfMemory, Text};
+use crate::index::{Found, Index};
+use crate::nets::Nets;
+use crate::tables::Tables;
+use fx_io::OutOfMemory;
 use std::alloc::Global;
 use vl_ast::{Instance, Link, ModItem, Module, Port};
 use vl_inner::{inner_name, is_shared};
 use vl_names::is_identifier;
-
-/// How many modules have this name.
-fn modules_named(below: &[Module], name: &[u8]) -> usize
-    ensures { result ≡ count_by (is_named name.now) below.now }
-{
-    below.iter().filter(|one| one.name.bytes() == name).count()
-}
-
-fn first_named<'a>(below: &'a [Module], name: &[u8]) -> Option<&'a Module>
-    ensures { option_map (λ m. m.now) result ≡ find (is_named name.now) below.now }
-{
-    below.iter().find(|one| one.name.bytes() == name)
-}
-
-/// The module of this name, where there is exactly one.
-pub fn module_of<'a>(below: &'a [Module], name: &[u8]) -> Option<&'a Module>
-    ensures { option_map (λ m. m.now) result ≡ module_of below.now name.now }
-{
-    if modules_named(below, name) == 1 {
-        first_named(below, name)
-    } else {
-        None
-    }
-}
 
 /// Whether an item declares a net; else it drives one.
 pub fn declares(item: &ModItem) -> bool
@@ -45,182 +29,68 @@ pub fn declares(item: &ModItem) -> bool
     matches!(item, ModItem::Wire { .. } | ModItem::Reg { .. })
 }
 
-fn has_word(port: &Port, width: u32, signed: bool) -> bool
-    ensures { result ≡ has_word port.now width signed }
+/// Whether a link of this port leads to a net that fits it.
+fn leads_well<'a>(nets: &Nets<'a>, port: &Port, link: &'a Link) -> bool
+    ensures { result ≡ leads_by nets.now port.now link.now }
 {
-    width == port.width && (if port.signed { signed } else { !signed })
+    let (name, net) = (port.name.bytes(), link.net.bytes());
+    nets.fit(port, net) && (!is_shared(name) || net == name)
 }
 
-fn port_fits(port: &Port, net: &[u8], other: &Port) -> bool
-    ensures { result ≡ test.port_fits port.now net.now other.now }
+/// Whether one link is of this port, and leads to a net that fits it.
+fn is_led<'a>(nets: &Nets<'a>, by_port: &Index<'_>, links: &'a [Link], port: &Port) -> bool
+    ensures { result ≡ is_led nets.now by_port.now links.now port.now }
 {
-    other.name.bytes() == net && has_word(port, other.width, other.signed)
-}
-
-fn item_fits(port: &Port, net: &[u8], item: &ModItem) -> bool
-    ensures { result ≡ test.item_fits port.now net.now item.now }
-{
-    match item {
-        ModItem::Wire {
-            signed,
-            width,
-            name,
-        } => name.bytes() == net && has_word(port, *width, *signed),
-        ModItem::Reg {
-            signed,
-            width,
-            name,
-        } => name.bytes() == net && has_word(port, *width, *signed),
-        ModItem::Assign { .. } | ModItem::Always { .. } => false,
+    let Some(Found::Once(place)) = by_port.find(port.name.bytes()) else {
+        return false;
+    };
+    match links.get(place) {
+        None => false,
+        Some(link) => leads_well(nets, port, link),
     }
 }
 
-fn ports_fit(ports: &[Port], port: &Port, net: &[u8]) -> bool
-    ensures { result ≡ list_any (test.port_fits port.now net.now) ports.now }
+fn each_is_led<'a>(nets: &Nets<'a>, by_port: &Index<'_>, ports: &[Port], links: &'a [Link]) -> bool
+    ensures { result ≡ list_all (is_led nets.now by_port.now links.now) ports.now }
 {
-    ports.iter().any(|other| port_fits(port, net, other))
+    let mut led = true;
+    for port in ports {
+        led &= is_led(nets, by_port, links, port);
+    }
+    led
 }
 
-fn items_fit(items: &[ModItem], port: &Port, net: &[u8]) -> bool
-    ensures { result ≡ list_any (test.item_fits port.now net.now) items.now }
-{
-    items.iter().any(|item| item_fits(port, net, item))
-}
-
-/// Whether the top declares a net of this name that fits a port.
-fn has_net(top: &Module, port: &Port, net: &[u8]) -> bool
-    ensures { result ≡ test.has_net top.now port.now net.now }
-{
-    ports_fit(top.ports.as_slice(), port, net) | items_fit(top.items.as_slice(), port, net)
-}
-
-/// Whether a link of this port leads to a net that fits it.
-fn leads_well(top: &Module, link: &Link, port: &Port) -> bool
-    ensures { result ≡ test.leads_well top.now link.now port.now }
-{
-    let (name, net) = (port.name.bytes(), link.net.bytes());
-    has_net(top, port, net) && (!is_shared(name) || net == name)
-}
-
-fn link_fits(top: &Module, link: &Link, port: &Port) -> bool
-    ensures { result ≡ test.link_fits top.now link.now port.now }
-{
-    port.name.bytes() != link.port.bytes() || leads_well(top, link, port)
-}
-
-/// How many links a port of this name has.
-fn links_of(links: &[Link], name: &[u8]) -> usize
-    ensures { result ≡ links_of links.now name.now }
-{
-    links
-        .iter()
-        .filter(|link| link.port.bytes() == name)
-        .count()
-}
-
-fn is_of_port(ports: &[Port], link: &Link) -> bool
-    ensures { result ≡ is_of_port ports.now link.now }
-{
-    let name = link.port.bytes();
-    ports.iter().any(|port| port.name.bytes() == name)
-}
-
-fn link_fits_ports(top: &Module, ports: &[Port], link: &Link) -> bool
-    ensures { result ≡ list_all (test.link_fits top.now link.now) ports.now }
-{
-    ports.iter().all(|port| link_fits(top, link, port))
-}
-
-fn have_one_link(ports: &[Port], links: &[Link]) -> bool
+fn are_of_ports(by_name: &Index<'_>, links: &[Link]) -> bool
     ensures { result
-        ≡ list_all (λ (port : Port). links_of links.now port.name == 1) ports.now }
+        ≡ list_all (λ (link : Link). has_place (found_in by_name.now link.port)) links.now }
 {
-    ports
-        .iter()
-        .all(|port| links_of(links, port.name.bytes()) == 1)
+    links.iter().all(|link| by_name.has(link.port.bytes()))
 }
 
-fn are_of_ports(ports: &[Port], links: &[Link]) -> bool
-    ensures { result ≡ list_all (is_of_port ports.now) links.now }
+/// Whether each port has one link, each link is of a port, and each leads to a net that fits. The only
+/// error is want of memory.
+fn are_ports_linked<'a>(
+    alloc: Global,
+    nets: &Nets<'a>,
+    ports: &[Port],
+    links: &'a [Link],
+) -> Result<bool, OutOfMemory>
+    ensures { (top : Module) → AreNets (top_declared top) nets.now
+        → IfOk result (λ linked. linked ≡ test.are_ports_linked top ports.now links.now) }
 {
-    links.iter().all(|link| is_of_port(ports, link))
-}
-
-fn links_fit(top: &Module, ports: &[Port], links: &[Link]) -> bool
-    ensures { result
-        ≡ list_all (λ (link : Link). list_all (test.link_fits top.now link) ports.now) links.now }
-{
-    links.iter().all(|link| link_fits_ports(top, ports, link))
-}
-
-/// Whether each port has one link, each link is of a port, and each leads to a net that fits.
-fn are_ports_linked(top: &Module, ports: &[Port], links: &[Link]) -> bool
-    ensures { result ≡ test.are_ports_linked top.now ports.now links.now }
-{
-    have_one_link(ports, links) & are_of_ports(ports, links) & links_fit(top, ports, links)
-}
-
-/// How many instances have this name.
-fn instances_named(instances: &[Instance], name: &[u8]) -> usize
-    ensures { result ≡ count_by (λ (other : Instance). bytes_eq other.name name.now) instances.now }
-{
-    instances
-        .iter()
-        .filter(|other| other.name.bytes() == name)
-        .count()
-}
-
-fn instance_begins(instances: &[Instance], head: &[u8]) -> bool
-    ensures { result
-        ≡ list_any (λ (other : Instance). starts_with nat_eq other.name head.now) instances.now }
-{
-    instances
-        .iter()
-        .any(|other| other.name.bytes().starts_with(head))
-}
-
-fn port_begins(ports: &[Port], head: &[u8]) -> bool
-    ensures { result
-        ≡ list_any (λ (port : Port). starts_with nat_eq port.name head.now) ports.now }
-{
-    ports.iter().any(|port| port.name.bytes().starts_with(head))
-}
-
-fn item_begins(item: &ModItem, head: &[u8]) -> bool
-    ensures { result ≡ test.item_begins head.now item.now }
-{
-    declares(item) && item.name().starts_with(head)
-}
-
-fn items_begin(items: &[ModItem], head: &[u8]) -> bool
-    ensures { result ≡ list_any (test.item_begins head.now) items.now }
-{
-    items.iter().any(|item| item_begins(item, head))
-}
-
-/// Whether the top declares a name that begins so.
-fn net_begins(top: &Module, head: &[u8]) -> bool
-    ensures { result ≡ test.net_begins top.now head.now }
-{
-    port_begins(top.ports.as_slice(), head) | items_begin(top.items.as_slice(), head)
+    let by_port = Index::of_links(alloc, links)?;
+    let by_name = Index::of_ports(alloc, ports)?;
+    Ok(are_of_ports(&by_name, links) & each_is_led(nets, &by_port, ports, links))
 }
 
 /// Whether no other instance has the name of one, and no name of another or of the top begins with it
-/// and `_`. The only error is want of memory.
-fn are_names_apart(
-    alloc: Global,
-    instances: &[Instance],
-    top: &Module,
-    name: &[u8],
-) -> Result<bool, OutOfMemory>
-    ensures { IfOk result (λ apart. apart
-        ≡ test.are_names_apart instances.now top.now name.now (name.now ++ codes "_")) }
+/// and `_`.
+fn are_names_apart<'a>(tables: &Tables<'a>, name: &[u8], head: &'a [u8]) -> bool
+    ensures { (below : List Module) (top : Module) (instances : List Instance)
+        → AreTables below top instances tables.now
+        → result ≡ test.are_names_apart instances top name.now head.now }
 {
-    let head = Text::copy(alloc, name)?.append(alloc, b"_")?;
-    let head = head.bytes();
-    let once = instances_named(instances, name) == 1;
-    let apart = !instance_begins(instances, head);
-    Ok(once & apart & !net_begins(top, head))
+    tables.instances.is_at_once(name) & !tables.names.begin_with(head)
 }
 
 /// Whether a name is an identifier where its module stands by this name. The only error is want of
@@ -270,23 +140,29 @@ fn are_words(alloc: Global, head: &[u8], of: &Module) -> Result<bool, OutOfMemor
     Ok(ports & items_are_words(alloc, head, of.items.as_slice())?)
 }
 
-/// Whether an instance is linked as it must be. The only error is want of memory.
-pub fn is_linked(
+/// Whether an instance is linked as it must be. `head` begins the names of its nets. The only error is
+/// want of memory.
+pub fn is_linked<'a>(
     alloc: Global,
-    instances: &[Instance],
-    below: &[Module],
-    top: &Module,
-    one: &Instance,
+    tables: &Tables<'a>,
+    one: &'a Instance,
+    head: &'a [u8],
 ) -> Result<bool, OutOfMemory>
-    ensures { IfOk result (λ linked. linked
-        ≡ test.is_linked instances.now below.now top.now one.now) }
+    ensures { (below : List Module) (top : Module) (instances : List Instance)
+        → AreTables below top instances tables.now → head.now ≡ head_of one.now
+        → IfOk result (λ linked. linked ≡ test.is_linked instances below top one.now) }
 {
-    let Some(of) = module_of(below, one.of.bytes()) else {
+    let Some(of) = tables.modules.named(one.of.bytes()) else {
         return Ok(false);
     };
     let name = one.name.bytes();
-    let ports = are_ports_linked(top, of.ports.as_slice(), one.links.as_slice());
-    let apart = are_names_apart(alloc, instances, top, name)?;
+    let ports = are_ports_linked(
+        alloc,
+        &tables.nets,
+        of.ports.as_slice(),
+        one.links.as_slice(),
+    )?;
+    let apart = are_names_apart(tables, name, head);
     let words = are_words(alloc, name, of)?;
     Ok(ports & apart & words)
 }

@@ -3,7 +3,7 @@ use Rattle.std.proofs.lemmas.List.{take_all}
 use Rattle.vl_ast.specs.declared.designs.Instance.{Instance}
 use Rattle.vl_ast.proofs.Listings.{lists-as, none-put, one-more}
 use Rattle.vl_hier.specs.Flat.{drivers_by}
-use Rattle.vl_hier.specs.Linked.{module_of}
+use Rattle.vl_hier.specs.inner.Tables.{module_by}
 use Rattle.vl_hier.proofs.flattening.put_all_drivers.Goals as goal
 
 pub loop-one-init : goal.loop-one-init
@@ -12,8 +12,8 @@ loop-one-init c = none-put c.args.out.now
 pub loop-one-preserved : goal.loop-one-preserved
 loop-one-preserved c =
     one-more c.args.all.now c.loop-one.one-index c.one-item.result c.loop-one-test.true c.one-item.is
-    (λ (i : Instance). drivers_by i (module_of c.args.below.now i.of)) c.loop-one.invariant
+    (λ (i : Instance). drivers_by i (module_by c.args.modules.now i.of)) c.loop-one.invariant
     c.put_drivers.ensures
 
 pub returns : goal.returns
-returns c = lists-as (ap (flat_map (λ (i : Instance). drivers_by i (module_of c.args.below.now i.of))) (take_all c.loop-one.one-index c.args.all.now c.loop-one-test.false)) c.loop-one.invariant
+returns c = lists-as (ap (flat_map (λ (i : Instance). drivers_by i (module_by c.args.modules.now i.of))) (take_all c.loop-one.one-index c.args.all.now c.loop-one-test.false)) c.loop-one.invariant

@@ -1,4 +1,4 @@
-use Rattle.std.proofs.Common.{◌≡◌, ◌++◌, ◌∙◌, not, List, Some, ap, filter, flat_map, map}
+use Rattle.std.proofs.Common.{◌≡◌, ◌++◌, ◌∙◌, not, List, Some, append_assoc, ap, filter, flat_map, map}
 use Rattle.vl_ast.specs.declared.modules.ModItem.{ModItem}
 use Rattle.vl_ast.specs.Drivers.{declares}
 use Rattle.vl_ast.proofs.Listings.{both, lists-as}
@@ -6,7 +6,7 @@ use Rattle.vl_inner.specs.Names.{inner_name}
 use Rattle.vl_inner.specs.Renamed.{renamed_item}
 use Rattle.vl_hier.specs.declared.items.Part.TheVariants.{Drivers}
 use Rattle.vl_hier.specs.Flat.{drivers_by, inward, outward}
-use Rattle.vl_hier.specs.Linked.{module_of}
+use Rattle.vl_hier.specs.inner.Tables.{module_by}
 use Rattle.vl_hier.proofs.Filters.{part-renamed}
 use Rattle.vl_hier.proofs.flattening.put_drivers.Goals as goal
 
@@ -21,5 +21,5 @@ returns-in-Some c =
     flat_map (inward (c.as_slice-ports.ensures i) (name i)) (c.as_slice-links.ensures i)
     ++ (flat_map (outward (c.as_slice-ports.ensures i) (name i)) (c.as_slice-links.ensures i)
     ++ map (renamed_item (inner_name (name i))) (filter (λ (x : ModItem). not (declares x)) (c.as_slice.ensures i)))) in
-    let found = c.in-Some.ensures ∙ ap (module_of c.args.below.now) c.bytes.ensures in
-    lists-as (parts ∙ are ∙ ap (drivers_by c.args.one.now) found) (both c.put_links.ensures (both c.put_links-in-Some.ensures c.put_part.ensures))
+    let found = c.in-Some.ensures ∙ ap (module_by c.args.modules.now) c.bytes.ensures in
+    lists-as (append_assoc ins outs _ ∙ parts ∙ are ∙ ap (drivers_by c.args.one.now) found) (both c.put_links.ensures c.put_part.ensures)

@@ -6,7 +6,7 @@ use Rattle.vl_inner.specs.Names.{inner_name}
 use Rattle.vl_inner.specs.Renamed.{renamed_item}
 use Rattle.vl_hier.specs.declared.items.Part.TheVariants.{Nets}
 use Rattle.vl_hier.specs.Flat.{nets_by, port_wire}
-use Rattle.vl_hier.specs.Linked.{module_of}
+use Rattle.vl_hier.specs.inner.Tables.{module_by}
 use Rattle.vl_hier.proofs.Filters.{part-renamed}
 use Rattle.vl_hier.proofs.flattening.put_nets.Goals as goal
 
@@ -20,5 +20,5 @@ returns-in-Some c =
     ≡ nets_by c.args.one.now.name (Some c.in-Some.of.now) =
     (λ i. flat_map (port_wire (name i)) (c.as_slice.ensures i)
     ++ map (renamed_item (inner_name (name i))) (filter declares (c.as_slice-in-Some.ensures i))) in
-    let found = c.in-Some.ensures ∙ ap (module_of c.args.below.now) c.bytes.ensures in
+    let found = c.in-Some.ensures ∙ ap (module_by c.args.modules.now) c.bytes.ensures in
     lists-as (parts ∙ are ∙ ap (nets_by c.args.one.now.name) found) (both c.put_wires.ensures c.put_part.ensures)
