@@ -54,8 +54,8 @@ fn is_op(one: NetOp, other: NetOp) -> bool
     }
 }
 
-/// Whether a net does what the other does on nets with the same roots, and multiplies nothing.
-pub fn is_alike(one: &NetKind, other: &NetKind, roots: &[u32]) -> bool
+/// Whether two nets are one operation, no multiplication, on nets with the same roots.
+fn are_operations_alike(one: &NetKind, other: &NetKind, roots: &[u32]) -> bool
     requires one { All (λ k. k < length roots.now) (reads one.now) }
     requires other { All (λ k. k < length roots.now) (reads other.now) }
     ensures { result ≡ true
@@ -69,6 +69,18 @@ pub fn is_alike(one: &NetKind, other: &NetKind, roots: &[u32]) -> bool
                 args: others,
             },
         ) => { is_op(*op, *second) && are_alike(args.as_slice(), others.as_slice(), roots) }
+        _ => false,
+    }
+}
+
+/// Whether two nets are one register behind nets with the same root.
+fn are_registers_alike(one: &NetKind, other: &NetKind, roots: &[u32]) -> bool
+    requires one { All (λ k. k < length roots.now) (reads one.now) }
+    requires other { All (λ k. k < length roots.now) (reads other.now) }
+    ensures { result ≡ true
+        → redirected (place_in roots.now) one.now ≡ redirected (place_in roots.now) other.now }
+{
+    match (one, other) {
         (
             NetKind::Reg {
                 frame,
@@ -88,6 +100,18 @@ pub fn is_alike(one: &NetKind, other: &NetKind, roots: &[u32]) -> bool
                 && *first == *second_first
                 && roots[*from as usize] == roots[*source as usize]
         }
+        _ => false,
+    }
+}
+
+/// Whether two nets are one register with an enable, behind nets with the same roots.
+fn are_enabled_registers_alike(one: &NetKind, other: &NetKind, roots: &[u32]) -> bool
+    requires one { All (λ k. k < length roots.now) (reads one.now) }
+    requires other { All (λ k. k < length roots.now) (reads other.now) }
+    ensures { result ≡ true
+        → redirected (place_in roots.now) one.now ≡ redirected (place_in roots.now) other.now }
+{
+    match (one, other) {
         (
             NetKind::EnReg {
                 frame,
@@ -110,6 +134,18 @@ pub fn is_alike(one: &NetKind, other: &NetKind, roots: &[u32]) -> bool
                 && roots[*enable as usize] == roots[*second_enable as usize]
                 && roots[*from as usize] == roots[*source as usize]
         }
+        _ => false,
+    }
+}
+
+/// Whether two nets are one bridge behind nets with the same root.
+fn are_bridges_alike(one: &NetKind, other: &NetKind, roots: &[u32]) -> bool
+    requires one { All (λ k. k < length roots.now) (reads one.now) }
+    requires other { All (λ k. k < length roots.now) (reads other.now) }
+    ensures { result ≡ true
+        → redirected (place_in roots.now) one.now ≡ redirected (place_in roots.now) other.now }
+{
+    match (one, other) {
         (
             NetKind::Bridge { frame, live, from },
             NetKind::Bridge {
@@ -122,9 +158,33 @@ pub fn is_alike(one: &NetKind, other: &NetKind, roots: &[u32]) -> bool
                 && *live == *second_live
                 && roots[*from as usize] == roots[*source as usize]
         }
-        (NetKind::Counter { frame }, NetKind::Counter { frame: other_frame }) => {
-            *frame == *other_frame
-        }
         _ => false,
+    }
+}
+
+/// Whether two nets are one Counter.
+fn are_counters_alike(one: &NetKind, other: &NetKind) -> bool
+    ensures { result ≡ true → one.now ≡ other.now }
+{
+    match (one, other) {
+        (NetKind::Counter { frame }, NetKind::Counter { frame: second }) => *frame == *second,
+        _ => false,
+    }
+}
+
+/// Whether a net does what the other does on nets with the same roots, and multiplies nothing.
+pub fn is_alike(one: &NetKind, other: &NetKind, roots: &[u32]) -> bool
+    requires one { All (λ k. k < length roots.now) (reads one.now) }
+    requires other { All (λ k. k < length roots.now) (reads other.now) }
+    ensures { result ≡ true
+        → redirected (place_in roots.now) one.now ≡ redirected (place_in roots.now) other.now }
+{
+    match one {
+        NetKind::Comb { .. } => are_operations_alike(one, other, roots),
+        NetKind::Reg { .. } => are_registers_alike(one, other, roots),
+        NetKind::EnReg { .. } => are_enabled_registers_alike(one, other, roots),
+        NetKind::Bridge { .. } => are_bridges_alike(one, other, roots),
+        NetKind::Counter { .. } => are_counters_alike(one, other),
+        NetKind::Unit { .. } => false,
     }
 }
