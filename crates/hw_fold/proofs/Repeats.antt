@@ -6,6 +6,7 @@ use Rattle.hw_net.specs.declared.netlist.NetKind.TheVariants.{Comb}
 use Rattle.hw_net.specs.declared.netlist.NetOp.{NetOp}
 use Rattle.hw_net.specs.Netlist.{reads}
 use Rattle.math_list.proofs.Elements.{all-at, all-in}
+use Rattle.hw_fold.specs.inner.Roots.{IsChoiceBetween}
 
 pub maps-same : (f : ℕ → ℕ) (xs ys : List ℕ) → length xs ≡ length ys → ((j : ℕ) → j < length xs → f (slice_index xs j) ≡ f (slice_index ys j)) → map f xs ≡ map f ys
 maps-same f [] [] long each = refl
@@ -31,3 +32,12 @@ pub first-inside : (nets : List Net) (count : ℕ) → All (λ (net : Net). All 
 first-inside nets count there k net here op args is long =
     all-in (λ (read : ℕ). read < count) (reads net.kind) (all-at (λ (one : Net). All (λ (read : ℕ). read < count) (reads one.kind)) nets there k net here) (slice_index args 0)
     (subst (λ (kind : NetKind). Contains (reads kind) (slice_index args 0)) (sym (first-of net.kind op args is long)) (0, omega arith, refl))
+
+-- what a choice is between is there
+pub arms-inside : (nets : List Net) (count : ℕ) → All (λ (net : Net). All (λ (read : ℕ). read < count) (reads net.kind)) nets → (k : ℕ) (net : Net) → slice_get nets k ≡ Some net
+    → (one second : ℕ) → IsChoiceBetween net.kind one second → (one < count) × (second < count)
+arms-inside nets count there k net here one second choice =
+    let all = subst (λ (kind : NetKind). All (λ (read : ℕ). read < count) (reads kind)) choice.is
+    (all-at (λ (other : Net). All (λ (read : ℕ). read < count) (reads other.kind)) nets there k net here) in
+    let inside = all-in (λ (read : ℕ). read < count) (choice.test ∷ one ∷ second ∷ []) all in
+    (inside one (1, omega arith, refl), inside second (2, omega arith, refl))

@@ -7,7 +7,7 @@ use Rattle.std.proofs.lemmas.Option.{get_or_from_slice_get, slice_get-get_or}
 use Rattle.hw_net.specs.declared.netlist.Net.{Net}
 use Rattle.hw_net.specs.declared.netlist.NetKind.{NetKind}
 use Rattle.hw_net.specs.declared.netlist.NetKind.TheVariants.{Comb, Reg, EnReg, Bridge, Unit, Counter}
-use Rattle.hw_net.specs.declared.netlist.NetOp.TheVariants.{Resize}
+use Rattle.hw_net.specs.declared.netlist.NetOp.TheVariants.{Choose, Resize}
 use Rattle.hw_net.specs.Netlist.{reads}
 use Rattle.hw_net.specs.Products.{net_at, no_net, places}
 use Rattle.hw_order.specs.Order.{IsOrder}
@@ -128,16 +128,38 @@ module _ (rank : ℕ → ℕ) (fold : Fold) (k : ℕ) (inside : k < length fold.
     read-of : (j : ℕ) → j < length fold.nets → (read : ℕ) → (at j).kind ≡ Comb Resize (read ∷ []) → read < length fold.nets
     read-of j below read e = reads-below j below read (subst (λ (kind : NetKind). Contains (reads kind) read) (sym e) (0, omega arith, refl))
 
+    chosen-of : (j : ℕ) → j < length fold.nets → (test one second : ℕ) → (at j).kind ≡ Comb Choose (test ∷ one ∷ second ∷ []) → (one < length fold.nets) × (second < length fold.nets)
+    chosen-of j below test one second e = (
+      reads-below j below one (subst (λ (kind : NetKind). Contains (reads kind) one) (sym e) (1, omega arith, refl)),
+      reads-below j below second (subst (λ (kind : NetKind). Contains (reads kind) second) (sym e) (2, omega arith, refl)),
+    )
+
     same-own : DoesSame fold.nets root' k other
     same-own = elim is.same [
       | inl e ↦ inl (kinds-still other k is.root.inside inside e)
-      | inr c ↦ inr (record { read = c.read; is = c.is; same = sym (over c.read (read-of k inside c.read c.is)) ∙ ap root' c.same ∙ root-of-other })
+      | inr (inl c) ↦ inr (inl (record { read = c.read; is = c.is; same = sym (over c.read (read-of k inside c.read c.is)) ∙ ap root' c.same ∙ root-of-other }))
+      | inr (inr c) ↦ inr (inr (record {
+        test = c.test;
+        one = c.one;
+        second = c.second;
+        is = c.is;
+        one_same = sym (over c.one (chosen-of k inside c.test c.one c.second c.is).0) ∙ ap root' c.one_same ∙ root-of-other;
+        second_same = sym (over c.second (chosen-of k inside c.test c.one c.second c.is).1) ∙ ap root' c.second_same ∙ root-of-other;
+      }))
     ]
 
     same-else : (j : ℕ) → j ≢ k → j < length fold.nets → DoesSame fold.nets root' j (root j)
     same-else j apart below = elim (folding.same j below) [
       | inl e ↦ inl (kinds-still (root j) j (folding.inside j below) below e)
-      | inr c ↦ inr (record { read = c.read; is = c.is; same = sym (over c.read (read-of j below c.read c.is)) ∙ ap root' c.same ∙ over j below ∙ root-else j apart })
+      | inr (inl c) ↦ inr (inl (record { read = c.read; is = c.is; same = sym (over c.read (read-of j below c.read c.is)) ∙ ap root' c.same ∙ over j below ∙ root-else j apart }))
+      | inr (inr c) ↦ inr (inr (record {
+        test = c.test;
+        one = c.one;
+        second = c.second;
+        is = c.is;
+        one_same = sym (over c.one (chosen-of j below c.test c.one c.second c.is).0) ∙ ap root' c.one_same ∙ over j below ∙ root-else j apart;
+        second_same = sym (over c.second (chosen-of j below c.test c.one c.second c.is).1) ∙ ap root' c.second_same ∙ over j below ∙ root-else j apart;
+      }))
     ]
 
     -- what holds of the net and of the others holds of all

@@ -6,7 +6,7 @@ use Rattle.hw_net.specs.declared.netlist.Frame.{Frame}
 use Rattle.hw_net.specs.declared.netlist.Net.{Net}
 use Rattle.hw_net.specs.declared.netlist.NetLabel.{NetLabel}
 use Rattle.hw_net.specs.declared.netlist.NetPort.{NetPort}
-use Rattle.hw_net.specs.declared.netlist.NetOp.TheVariants.{Input, Resize}
+use Rattle.hw_net.specs.declared.netlist.NetOp.TheVariants.{Choose, Input, Resize}
 use Rattle.hw_net.specs.declared.netlist.NetKind.{NetKind}
 use Rattle.hw_net.specs.declared.netlist.NetKind.TheVariants.{Comb, Reg, EnReg, Bridge, Unit, Counter}
 use Rattle.hw_net.specs.Circuit.{Circuit}
@@ -70,7 +70,8 @@ module _ (old : Circuit) (runs : IsNetlist old) (emits : IsEmittable old) (roots
   input-same : (k input : ℕ) → k < count → (net_at old.nets k).kind ≡ Comb (Input input) [] → (net_at old.nets (root k)).kind ≡ Comb (Input input) []
   input-same k input below is = elim (folded.folding.same k below) [
     | inl e ↦ input-of root (net_at old.nets (root k)).kind input (e ∙ ap (redirected root) is)
-    | inr copy ↦ absurd (let e : Comb (Input input) [] ≡ Comb Resize (copy.read ∷ []) = sym is ∙ copy.is in cc e)
+    | inr (inl copy) ↦ absurd (let e : Comb (Input input) [] ≡ Comb Resize (copy.read ∷ []) = sym is ∙ copy.is in cc e)
+    | inr (inr choice) ↦ absurd (let e : Comb (Input input) [] ≡ Comb Choose (choice.test ∷ choice.one ∷ choice.second ∷ []) = sym is ∙ choice.is in cc e)
   ]
 
   frame-kept : (i b : ℕ) (frame : Frame) → slice_get (places count) i ≡ Some b → frame_of (net_at old.nets b).kind ≡ Some frame → IsCounted old (places count) frame
@@ -162,7 +163,15 @@ module _ (old : Circuit) (runs : IsNetlist old) (emits : IsEmittable old) (roots
         sign = folded.folding.sign k below ∙ ap (λ (n : Net). n.signed) e;
         kind = elim (folded.folding.same k below) [
           | inl h ↦ inl (h ∙ ap (λ (n : Net). redirected root n.kind) e)
-          | inr copy ↦ inr (record { read = copy.read; is = ap (λ (n : Net). n.kind) (sym e) ∙ copy.is; same = copy.same })
+          | inr (inl copy) ↦ inr (inl (record { read = copy.read; is = ap (λ (n : Net). n.kind) (sym e) ∙ copy.is; same = copy.same }))
+          | inr (inr choice) ↦ inr (inr (record {
+            test = choice.test;
+            one = choice.one;
+            other = choice.second;
+            is = ap (λ (n : Net). n.kind) (sym e) ∙ choice.is;
+            one_same = choice.one_same;
+            other_same = choice.second_same;
+          }))
         ];
       }
 

@@ -3,7 +3,7 @@ ghost use Rattle.std.specs.Prelude.{◌≡◌, ◌<◌, IfOk, true, false, lengt
 ghost use Rattle.hw_renumber.specs.Renumbered.{place_in};
 ghost use Rattle.hw_fold.specs.inner.Fold.{IsOpen};
 ghost use Rattle.hw_fold.specs.inner.Pins.{is_marked};
-ghost use Rattle.hw_fold.specs.inner.Roots.{fold_of, HasSizes, IsRoot, IsFound, StandsFor};
+ghost use Rattle.hw_fold.specs.inner.Roots.{fold_of, HasSizes, IsChoiceBetween, IsRoot, IsFound, StandsFor};
 
 use crate::alike::is_alike;
 use crate::key::{Key, key_of};
@@ -68,6 +68,39 @@ fn copied(nets: &[Net], alone: &[bool], roots: &[u32], done: &[bool], k: u32) ->
     }
 }
 
+/// The two nets that a net chooses between.
+fn arms_of(kind: &NetKind) -> Option<(u32, u32)>
+    ensures { MatchOption result ⊤ (λ arms. IsChoiceBetween kind.now arms.0 arms.1) }
+{
+    match kind {
+        NetKind::Comb {
+            op: NetOp::Choose,
+            args,
+        } => match args.as_slice() {
+            [_, one, second] => Some((*one, *second)),
+            _ => None,
+        },
+        _ => None,
+    }
+}
+
+/// What stands for both that a net chooses between, if it may stand for the choice too.
+fn chosen(nets: &[Net], alone: &[bool], roots: &[u32], done: &[bool], k: u32) -> Option<u32>
+    requires sizes { HasSizes (fold_of nets.now alone.now roots.now done.now) }
+    requires inside { k < length nets.now }
+    ensures { MatchOption result ⊤ (IsFound (fold_of nets.now alone.now roots.now done.now) k) }
+{
+    let Some((one, second)) = arms_of(&nets[k as usize].kind) else {
+        return None;
+    };
+    let other = roots[one as usize];
+    if roots[second as usize] == other && can_stand(nets, alone, roots, done, k, other) {
+        Some(other)
+    } else {
+        None
+    }
+}
+
 /// The net that is known by the key, if it does what the net does and may stand for it.
 fn repeated(
     nets: &[Net],
@@ -108,6 +141,9 @@ fn found(
         (IsFound (fold_of nets.now alone.now roots.now done.now) k)) }
 {
     if let Some(other) = copied(nets, alone, roots, done, k) {
+        return Ok(Some(other));
+    }
+    if let Some(other) = chosen(nets, alone, roots, done, k) {
         return Ok(Some(other));
     }
     let key = key_of(&nets[k as usize], roots);

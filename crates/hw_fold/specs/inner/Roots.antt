@@ -3,7 +3,7 @@ use Rattle.std.specs.Prelude.{◌≡◌, ℕ, ◌<◌, ◌≤◌, ◌⊎◌, Boo
 use Rattle.hw_net.specs.declared.netlist.Net.{Net}
 use Rattle.hw_net.specs.declared.netlist.NetKind.{NetKind}
 use Rattle.hw_net.specs.declared.netlist.NetKind.TheVariants.{Comb}
-use Rattle.hw_net.specs.declared.netlist.NetOp.TheVariants.{Resize}
+use Rattle.hw_net.specs.declared.netlist.NetOp.TheVariants.{Choose, Resize}
 use Rattle.hw_net.specs.Netlist.{reads}
 use Rattle.hw_net.specs.Products.{net_at}
 use Rattle.hw_refine.specs.Redirects.{redirected}
@@ -42,11 +42,26 @@ pub record IsCopyOf (root : ℕ → ℕ) (kind : NetKind) (other : ℕ) : Type 0
   pub is : kind ≡ Comb Resize (read ∷ [])
   pub same : root read ≡ other
 
--- on what stands for what they read, both do the same; or the net is a copy
+-- the net chooses between these two
+pub record IsChoiceBetween (kind : NetKind) (one second : ℕ) : Type 0 where
+  pub test : ℕ
+  pub is : kind ≡ Comb Choose (test ∷ one ∷ second ∷ [])
+
+-- the net chooses between two that the other stands for
+pub record IsChoiceOf (root : ℕ → ℕ) (kind : NetKind) (other : ℕ) : Type 0 where
+  pub test : ℕ
+  pub one : ℕ
+  pub second : ℕ
+  pub is : kind ≡ Comb Choose (test ∷ one ∷ second ∷ [])
+  pub one_same : root one ≡ other
+  pub second_same : root second ≡ other
+
+-- on what stands for what they read, both do the same; or the net is a copy, or a choice between
+-- two that are one
 abbrev pub DoesSame : List Net → (ℕ → ℕ) → ℕ → ℕ → Type 0
 DoesSame nets root k other =
     (redirected root (net_at nets other).kind ≡ redirected root (net_at nets k).kind)
-    ⊎ IsCopyOf root (net_at nets k).kind other
+    ⊎ (IsCopyOf root (net_at nets k).kind other ⊎ IsChoiceOf root (net_at nets k).kind other)
 
 pub record IsFound (fold : Fold) (k other : ℕ) : Type 0 where
   pub root : IsRoot fold k other
