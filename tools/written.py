@@ -39,8 +39,9 @@ def attributes(text: Optional[str]) -> dict[str, int]:
 
 
 def header(text: str) -> tuple[int, list[Port], list[Port]]:
-    """The clocks per base sample of a written module, its ports of the clock enable, and those that carry numbers."""
-    head = re.match(r"\(\* (.*?) \*\)\nmodule (?:" + MODULE + "|" + STREAM + r") \(\n(.*?)\n\);\n", text, re.S)
+    """The clocks per base sample of a written module, its ports of the clock enable, and those that carry numbers.
+    Modules of which it holds instances may stand before it."""
+    head = re.search(r"^\(\* ([^\n]*?) \*\)\nmodule (?:" + MODULE + "|" + STREAM + r") \(\n(.*?)\n\);\n", text, re.S | re.M)
     if head is None:
         raise Failed("its header is not understood")
     ports = []

@@ -6,7 +6,7 @@ from .calls import fault_of
 from .texts import TOP, held
 
 MOST = 16777216
-PLACES = {"check": ["m", "p"], "simulate": ["m", "s"], "generate": ["m", "p"], "replay": ["v", "s"], "explore": ["m"], "stream": ["m", "p"]}
+PLACES = {"check": ["m", "p"], "simulate": ["m", "s"], "generate": ["m", "p"], "replay": ["v", "s"], "explore": ["m"], "flatten": ["v"], "stream": ["m", "p"]}
 # The status of a text of the greatest length that is this byte throughout, by the word that it stands for.
 ALIKE = {
     b"\0": {"m": 5, "p": 6, "s": 6, "v": 8},

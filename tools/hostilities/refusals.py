@@ -39,6 +39,7 @@ def runs_of(program):
         if program.run("stream", f"{name}.m", f"{name}.p").status == 0:
             yield "stream", f"{name}.m", f"{name}.p"
         yield "replay", f"{name}.v", f"{name}.s"
+        yield "flatten", f"{name}.v"
     yield "explore", f"{EXAMPLES[2]}.m", "3..4,0..1"
     yield "sample", "1"
 
@@ -121,6 +122,7 @@ def long_runs_of(program):
     yield "generate", "delays", "-"
     yield "stream", "delays", "-"
     yield "replay", "text", "few"
+    yield "flatten", "text"
     yield "explore", f"{EXAMPLES[2]}.m", "1..128,0..3"
     yield "sample", "20"
 

@@ -43,7 +43,8 @@ def calls_of(program):
     program.put("v", held(os.path.join(TOP, "examples", "unit_delay.v")))
     program.put("s", b"".join(b"%d\n" % (row % 128) for row in range(ROWS)))
     program.put("wide", wide_model(2000))
-    for words in (("simulate", "m", "s"), ("replay", "v", "s"), ("generate", "wide", "-"), ("check", "wide", "-"), ("explore", "m", "1..1024,0..3"), ("stream", "wide", "-")):
+    program.put("text", program.run("generate", "wide", "-").out)
+    for words in (("simulate", "m", "s"), ("replay", "v", "s"), ("generate", "wide", "-"), ("check", "wide", "-"), ("explore", "m", "1..1024,0..3"), ("flatten", "text"), ("stream", "wide", "-")):
         yield words, program.run(*words).out
 
 

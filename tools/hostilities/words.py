@@ -5,7 +5,7 @@ import os
 from .calls import fault_of
 from .texts import TOP, held
 
-FILES = {"check": 2, "simulate": 2, "generate": 2, "replay": 2, "explore": 1, "stream": 2, "sample": 0}
+FILES = {"check": 2, "simulate": 2, "generate": 2, "replay": 2, "explore": 1, "flatten": 1, "stream": 2, "sample": 0}
 NUMBERS = ["", "-", "0", "5001", "01", "+1", "-1", "1 ", " 1", "1\n", "1.0", "1e3", "5000x", "4294967297", "18446744073709551617", "\udcff", "é", "9" * 100000]
 RANGES = ["", "-", "1..1", "1..1,0..0,", "0..1,0..0", "2..1,0..0", "1..1025,0..0", "1..1,0..65", "01..1,0..0", "1..1,0..0 ", " 1..1,0..0", "1..1024,0..64", "1..99999999999999999999,0..0", "+1..1,0..0", "1..1,-1..0", "1...1,0..0", "1..1,0..0\n", "\udcff", "é..1,0..0", "1" * 100000]
 
@@ -31,7 +31,7 @@ def run(program, _options, say):
     for word, ending in (("m", ".mdl"), ("s", ".stim"), ("v", ".v")):
         program.put(word, held(os.path.join(TOP, "examples", "unit_delay" + ending)))
     program.put("p", b"")
-    good = {"check": ["m", "p"], "simulate": ["m", "s"], "generate": ["m", "p"], "replay": ["v", "s"], "explore": ["m", "1..1,0..0"], "stream": ["m", "p"], "sample": ["1"]}
+    good = {"check": ["m", "p"], "simulate": ["m", "s"], "generate": ["m", "p"], "replay": ["v", "s"], "explore": ["m", "1..1,0..0"], "flatten": ["v"], "stream": ["m", "p"], "sample": ["1"]}
     wrong = calls = 0
 
     def tried(what, words, statuses, command="check"):

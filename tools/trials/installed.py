@@ -72,7 +72,7 @@ class Installing(Made):
         self.prefix = os.path.join(os.path.dirname(self.top), "a prefix")
         self.command = os.path.join(self.prefix, "bin/tilecatnip")
         for name in set(re.findall(r"examples/\S+", read(os.path.join(TOP, "tools/help.txt")))):
-            os.makedirs(os.path.join(self.top, "examples"), exist_ok=True)
+            os.makedirs(os.path.dirname(os.path.join(self.top, name)), exist_ok=True)
             shutil.copy(os.path.join(TOP, name), os.path.join(self.top, name))
 
     def install(self):

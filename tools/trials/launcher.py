@@ -273,7 +273,7 @@ class Launcher(Made):
     def test_unproved_answers_read_a_file_called_as_the_empty_plan(self):
         folder = os.path.dirname(self.model)
         write(os.path.join(folder, "-"), " of its own")
-        for words, read_too in ((("simulate", "-", "-"), 2), (("generate", "-", "-"), 1)):
+        for words, read_too in ((("simulate", "-", "-"), 2), (("generate", "-", "-"), 1), (("flatten", "-"), 1)):
             done = self.run_with(*words, folder=folder)
             self.assertEqual((done.returncode, done.stdout), (0, f"tried {words[0]}\n" + read_too * " of its own"), done.stderr)
 

@@ -88,20 +88,20 @@ class Shown(unittest.TestCase):
     """What README.md and docs/RULES.md show of a command is what it prints."""
 
     def print_of(self, command, folder=TOP):
-        command = re.sub(r"^\./tilecatnip (?=check|simulate|generate|replay|explore|sample|stream)", shlex.quote(program()) + " ", command)
+        command = re.sub(r"^\./tilecatnip (?=check|simulate|generate|replay|explore|sample|flatten|stream)", shlex.quote(program()) + " ", command)
         return subprocess.run(["sh", "-c", command], cwd=folder, stdout=subprocess.PIPE, stderr=subprocess.STDOUT, text=True, timeout=60)
 
     def test_README(self):
         tried = 0
         for command, shown in (it for _, text in blocks_of("README.md") for it in commands_of(text)):
-            if re.match(r"(\./tilecatnip (check|simulate|generate|replay|explore|sample|stream)|tools/lint)[^>|&]*$", command):
+            if re.match(r"(\./tilecatnip (check|simulate|generate|replay|explore|sample|flatten|stream)|tools/lint)[^>|&]*$", command):
                 self.assertEqual(self.print_of(command).stdout, shown, command)
                 tried += 1
         self.assertGreater(tried, 3)
 
     def test_examples_of_help(self):
         examples = re.findall(r"^\$ ((?!prove|install|help)[^>\n]*)", read(os.path.join(TOP, "tools/help.txt")), re.M)
-        self.assertEqual(len(examples), 7)
+        self.assertEqual(len(examples), 8)
         for example in examples:
             self.assertEqual(self.print_of(f"./tilecatnip {example}").returncode, 0, example)
 

@@ -1,6 +1,9 @@
+pub mod CarriedOut
 pub mod Checks
 pub mod Commands
 pub mod FetchFaults
+pub mod Flat
+pub mod Flattening
 pub mod Plans
 pub mod Refusals
 pub mod SampleOutputs

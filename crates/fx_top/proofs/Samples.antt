@@ -1,7 +1,7 @@
 -- What the answer to a sample says of its status, and of the bench that it was made by.
 use Rattle.std.proofs.Common.{◌≡◌, ◌⊎◌, ⊎_elim, ℕ, List, None, Some, refl, ap, ◌∙◌, subst, arith}
 use Rattle.fx_top.specs.declared.answer.Answer.{Answer}
-use Rattle.fx_top.specs.declared.answer.Answer.TheVariants.{Done, OutOfMemory, Usage, CannotRead, CannotWrite, NotMdl, BadTable, BreaksRule, NotVerilog, Broken, TooLong}
+use Rattle.fx_top.specs.declared.answer.Answer.TheVariants.{Done, OutOfMemory, Usage, CannotRead, CannotWrite, NotMdl, BadTable, BreaksRule, NotVerilog, Broken, BadInstance, TooLong}
 use Rattle.dg_model.specs.declared.diagram.Diagram.{Diagram}
 use Rattle.cmd_design.specs.declared.designing.DesignFault.{DesignFault}
 use Rattle.cmd_design.specs.declared.designing.DesignFault.TheVariants as design
@@ -26,7 +26,7 @@ use Rattle.cmd_generate.specs.Generated.{CanBeDesigned, IsWithoutDesign}
 use Rattle.fx_top.specs.Sampled.{HasSampleCause, HasSampleWritten, IfSample, IsCompleteSample, IsDueSample}
 use Rattle.fx_top.specs.Simulated.{CanBeSimulated}
 use Rattle.fx_top.specs.Summarized.{IsSummaryOf, IsSummed, TellsSampleRule}
-use Rattle.fx_top.proofs.Status.{carried}
+use Rattle.fx_top.proofs.CarriedOut.{carried}
 
 -- what was written by some bytes that the bench tells
 pub written-summed : (MayTell : List ℕ → List ℕ → List ℕ → Type 0) (number : ℕ) (told : List ℕ) (out : Stream)
@@ -42,6 +42,7 @@ written-summed MayTell number told out (BadTable file line cause) wrote = wrote
 written-summed MayTell number told out (BreaksRule line) wrote = wrote
 written-summed MayTell number told out (NotVerilog file line) wrote = wrote
 written-summed MayTell number told out (Broken file fault) wrote = wrote
+written-summed MayTell number told out (BadInstance file name) wrote = wrote
 written-summed MayTell number told out (TooLong file length) wrote = wrote
 
 -- a summary is that of a design
@@ -60,6 +61,7 @@ module _ (out : Stream) (number : ℕ) where
   is-due (BreaksRule line) why wrote refused = (0, omega arith, refl)
   is-due (NotVerilog file line) why wrote refused = absurd why
   is-due (Broken file fault) why wrote refused = absurd why
+  is-due (BadInstance file name) why wrote refused = absurd why
   is-due (TooLong file length) why wrote refused = absurd why
 
   none-broken : (line : List ℕ) → CanBeDesigned (sample_model number) sample_plan → TellsSampleRule number line → ⊥
@@ -77,6 +79,7 @@ module _ (out : Stream) (number : ℕ) where
   is-complete (BreaksRule line) why wrote can writes = absurd (none-broken line can why)
   is-complete (NotVerilog file line) why wrote can writes = absurd why
   is-complete (Broken file fault) why wrote can writes = absurd why
+  is-complete (BadInstance file name) why wrote can writes = absurd why
   is-complete (TooLong file length) why wrote can writes = absurd why
 
 module _ (files : Files) (out : Stream) where

@@ -1,5 +1,5 @@
 -- What a command's cause says of its status.
-use Rattle.std.proofs.Common.{◌≡◌, ⊎_elim, inl, inr, ℕ, List, [], ◌∷◌, Option, Some, refl, ap, sym, ◌∙◌, subst, arith}
+use Rattle.std.proofs.Common.{◌≡◌, ⊎_elim, inl, inr, ℕ, List, [], ◌∷◌, Some, refl, ap, sym, ◌∙◌, subst, arith}
 use Rattle.mdl_text.specs.declared.tree.Tree.{Tree}
 use Rattle.mdl_text.specs.Stands.{Stands}
 use Rattle.fx_tables.specs.declared.table.TableCause.{TableCause}
@@ -8,13 +8,12 @@ use Rattle.vl_ast.specs.Conditions.{Fault, IsFirstFault}
 use Rattle.vl_ast.specs.Grammar.{Spells}
 use Rattle.vl_check.specs.declared.fault.VlFault.{VlFault}
 use Rattle.fx_top.specs.declared.answer.Answer.{Answer}
-use Rattle.fx_top.specs.declared.answer.Answer.TheVariants.{Done, OutOfMemory, Usage, CannotRead, CannotWrite, NotMdl, BadTable, BreaksRule, NotVerilog, Broken, TooLong}
+use Rattle.fx_top.specs.declared.answer.Answer.TheVariants.{Done, OutOfMemory, Usage, CannotRead, CannotWrite, NotMdl, BadTable, BreaksRule, NotVerilog, Broken, BadInstance, TooLong}
 use Rattle.fx_top.specs.Answer.{status_of}
 use Rattle.fx_top.specs.Call.{Files, Stream, Trouble, Absent, Overlong, first_trouble}
 use Rattle.fx_top.specs.Cause.{AreFetched, HasNoTree, HasBrokenRule, HasBrokenPlan, HasBrokenPorts, HasBadLine, HasNoVerilog, BreaksCondition}
 use Rattle.fx_top.specs.Caused.{HasCause, HasWritten, IsCarriedOut}
-use Rattle.fx_top.specs.Command.{Asked, Command, PlanWord, Generate, Replay, Simulate, Explore, Check, Stream as StreamOf, OfFiles, asked_of, model_of, verilog_of, plan_of, table_of, first_of}
-use Rattle.fx_top.specs.Command.{files_of}
+use Rattle.fx_top.specs.Command.{Command, PlanWord, Generate, Replay, Simulate, Explore, Check, Stream as StreamOf, OfFiles, asked_of, model_of, verilog_of, plan_of, table_of, first_of, files_of}
 use Rattle.cmd_design.specs.Design.{IsBadPlan, TellsPlanRule}
 use Rattle.cmd_model.specs.Model.{IsNoText, IsModelOf, IsBrokenModel, IsWithoutDiagram}
 use Rattle.cmd_generate.specs.Generated.{IsWithoutDesign}
@@ -25,16 +24,11 @@ use Rattle.cmd_simulate.specs.Simulating.{fault_in}
 use Rattle.cmd_generate.specs.Streamed.{IsWithoutStream}
 use Rattle.cmd_replay.proofs.NoResponse.{sound-first}
 use Rattle.fx_top.proofs.Commands.{IsFit, IsGood, accepted-fit, bad-fit, first-model, first-verilog, fit-kept, fit-sound, fit-tree, good-diagram, good-sound, good-tree, model-alone, model-good}
+use Rattle.fx_top.proofs.CarriedOut.{carried}
 use Rattle.fx_top.proofs.Commands.{own-first, table-good}
 use Rattle.fx_top.proofs.ShelfFacts.{HasDesign, check-design, design-good, design-planned, design-told, fetched-told, lines-kept, no-trouble, none-broken, reads-plan, rules-kept, stream-design}
 use Rattle.fx_top.proofs.ShelfFacts.{told-is, verilog-design}
 use Rattle.fx_top.proofs.Unsteady.{designable, ports-good, ports-kept, ports-model, ports-planned, unstreamed}
-
--- what is carried out of the words is what they ask for
-pub carried : (files : Files) (out : Stream) (words : List (List ℕ)) (answer : Answer) (asked : Asked)
-    → IsCarriedOut files out (asked_of words) answer → asked_of words ≡ Some asked
-    → IsCarriedOut files out (Some asked) answer
-carried files out words answer asked why shape = subst (λ (named : Option Asked). IsCarriedOut files out named answer) shape why
 
 module _ (files : Files) (out : Stream) (unique : (bytes : List ℕ) (one other : Tree) → Stands bytes one → Stands bytes other → one ≡ other)
     (one_module : (bytes : List ℕ) (one other : Module) → Spells bytes one → Spells bytes other → one ≡ other) where
@@ -57,8 +51,6 @@ module _ (files : Files) (out : Stream) (unique : (bytes : List ℕ) (one other 
   bad-good : (command : Command) (bytes file : List ℕ) (line : ℕ) (cause : TableCause) → Tells files (first_of command) bytes → HasBadLine files command file line cause → IsGood command bytes
   bad-good command bytes file line cause tells why =
       subst (IsGood command) (sym (told-is files (first_of command) bytes why.first why.first_fetched tells)) (table-good command why.first why.table line cause why.bad)
-
-  -- ---- what the faults of the first file exclude
 
   -- no bytes spell a sound module and one that isn't
   not-sound : (bytes : List ℕ) (made : Module) (condition : Fault) → IsSoundText bytes made → HasFault bytes condition → ⊥
@@ -199,6 +191,7 @@ module _ (files : Files) (out : Stream) (unique : (bytes : List ℕ) (one other 
   by-answer own command none not_mdl bad rule no_verilog fault plan ports (BreaksRule line) why wrote = ⊎_elim (rule line) (⊎_elim (plan line) (ports line)) why.1
   by-answer own command none not_mdl bad rule no_verilog fault plan ports (NotVerilog file line) why wrote = no_verilog file.now line why.1
   by-answer own command none not_mdl bad rule no_verilog fault plan ports (Broken file condition) why wrote = fault file.now condition why.1
+  by-answer own command none not_mdl bad rule no_verilog fault plan ports (BadInstance file name) why wrote = absurd why
   by-answer own command none not_mdl bad rule no_verilog fault plan ports (TooLong file length) why wrote = (3, omega arith, refl)
 
   module _ (command : Command) where
@@ -214,6 +207,7 @@ module _ (files : Files) (out : Stream) (unique : (bytes : List ℕ) (one other 
     read_fault-due file is steady (BreaksRule line) why = absurd (fetched-whole command (Absent file) why.0 is)
     read_fault-due file is steady (NotVerilog answered line) why = absurd (fetched-whole command (Absent file) why.0 is)
     read_fault-due file is steady (Broken answered fault) why = absurd (fetched-whole command (Absent file) why.0 is)
+    read_fault-due file is steady (BadInstance answered name) why = absurd why
     read_fault-due file is steady (TooLong answered reported) why = let first = why.first steady in absurd (cc (first, is))
 
     too_long-due : (file : List ℕ) (length : ℕ)
@@ -229,6 +223,7 @@ module _ (files : Files) (out : Stream) (unique : (bytes : List ℕ) (one other 
     too_long-due file length is steady (BreaksRule line) why = absurd (fetched-whole command (Overlong file length) why.0 is)
     too_long-due file length is steady (NotVerilog answered line) why = absurd (fetched-whole command (Overlong file length) why.0 is)
     too_long-due file length is steady (Broken answered fault) why = absurd (fetched-whole command (Overlong file length) why.0 is)
+    too_long-due file length is steady (BadInstance answered name) why = absurd why
     too_long-due file length is steady (TooLong answered reported) why = (0, omega arith, refl)
 
     -- a fault of the first file's told bytes, which excludes an output
@@ -392,6 +387,7 @@ module _ (files : Files) (out : Stream) (unique : (bytes : List ℕ) (one other 
       (⊎_elim (plan-kept command can line) (λ ports. ports-kept files command line ports can)) why.1)
   is-complete command (NotVerilog file line) why wrote can gives writes = let told = can-bytes command can in absurd (not-no_verilog command told.0 told.1.0 told.1.1 file.now line why.1)
   is-complete command (Broken file fault) why wrote can gives writes = let told = can-bytes command can in absurd (not-fault command told.0 told.1.0 told.1.1 file.now fault why.1)
+  is-complete command (BadInstance file name) why wrote can gives writes = absurd why
   is-complete command (TooLong file length) why wrote can (inl steady) writes = let first = why.first steady.0 in let none = steady.1 in absurd (cc (first, none))
   is-complete command (TooLong file length) why wrote can (inr quiet) writes = absurd (quiet.1 why.rise)
 

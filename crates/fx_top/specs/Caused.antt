@@ -2,11 +2,12 @@
 use Rattle.std.specs.Prelude.{◌≡◌, ⊤, ℕ, List, Option, None, Some}
 use Rattle.cmd_replay.specs.Benched.{IsTold}
 use Rattle.fx_top.specs.declared.answer.Answer.{Answer}
-use Rattle.fx_top.specs.declared.answer.Answer.TheVariants.{Done, OutOfMemory, Usage, CannotRead, CannotWrite, NotMdl, BadTable, BreaksRule, NotVerilog, Broken, TooLong}
+use Rattle.fx_top.specs.declared.answer.Answer.TheVariants.{Done, OutOfMemory, Usage, CannotRead, CannotWrite, NotMdl, BadTable, BreaksRule, NotVerilog, Broken, BadInstance, TooLong}
 use Rattle.fx_top.specs.Answer.{status_of, line_of}
 use Rattle.fx_top.specs.Call.{Files, Stream, IsUntouched, Said}
 use Rattle.fx_top.specs.Cause.{CannotBeRead, IsTooLong, AreFetched, HasNoTree, HasBadLine, BreaksSomeRule, HasNoVerilog, BreaksCondition, WroteAll, WrotePart}
-use Rattle.fx_top.specs.Command.{Asked, Command, OfFiles, Sample, asked_of}
+use Rattle.fx_top.specs.Command.{Asked, Command, OfFiles, Flatten, Sample, asked_of}
+use Rattle.fx_top.specs.Flattened.{HasFlatCause, HasFlatWritten}
 use Rattle.fx_top.specs.Sampled.{HasSampleCause, HasSampleWritten}
 use Rattle.fx_top.specs.Summarized.{IsSummed}
 
@@ -27,6 +28,7 @@ HasCause files command (NotVerilog file line) =
     AreFetched files command × HasNoVerilog files command file.now line
 HasCause files command (Broken file fault) =
     AreFetched files command × BreaksCondition files command file.now fault
+HasCause files command (BadInstance file name) = ⊥
 HasCause files command (TooLong file length) = IsTooLong files command file.now length
 
 -- what it says of the output
@@ -41,6 +43,7 @@ HasWritten files out command (BadTable file line cause) = IsUntouched out
 HasWritten files out command (BreaksRule line) = IsUntouched out
 HasWritten files out command (NotVerilog file line) = IsUntouched out
 HasWritten files out command (Broken file fault) = IsUntouched out
+HasWritten files out command (BadInstance file name) = IsUntouched out
 HasWritten files out command (TooLong file length) = IsUntouched out
 
 -- the answer is that of what the words ask for, and of usage where they have no listed shape
@@ -48,6 +51,8 @@ abbrev pub IsCarriedOut : Files → Stream → Option Asked → Answer → Type 
 IsCarriedOut files out None answer = (answer ≡ Usage) × IsUntouched out
 IsCarriedOut files out (Some (OfFiles command)) answer = HasCause files command answer
     × HasWritten files out command answer
+IsCarriedOut files out (Some (Flatten file)) answer = HasFlatCause files file answer
+    × HasFlatWritten files file out answer
 IsCarriedOut files out (Some (Sample number)) answer = HasSampleCause number answer
     × HasSampleWritten (IsSummed IsTold number) out answer
 

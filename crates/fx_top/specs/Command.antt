@@ -30,9 +30,11 @@ pub data Command : Type 0 where
 abbrev pub plan_word : List ℕ → PlanWord
 plan_word word = if bytes_eq word (codes "-") then EmptyPlan else Named word
 
--- what words ask for: a command over files, or to write the summary of the sample of a number
+-- what words ask for: a command over files, to write the flat module of the design in a file, or
+-- the summary of the sample of a number
 pub data Asked : Type 0 where
   OfFiles : (command : Command) → Asked
+  Flatten : (file : List ℕ) → Asked
   Sample : (number : ℕ) → Asked
 
 -- to explore a model by a range that is named
@@ -65,8 +67,9 @@ asked_of (verb ∷ first ∷ second ∷ []) =
     else (if bytes_eq verb (codes "check") then Some (OfFiles (Check first (plan_word second)))
     else (if bytes_eq verb (codes "stream") then Some (OfFiles (Stream first (plan_word second)))
     else None)))))
-asked_of (verb ∷ number ∷ []) =
-    if bytes_eq verb (codes "sample") then sampled (number_of number) else None
+asked_of (verb ∷ word ∷ []) =
+    if bytes_eq verb (codes "flatten") then Some (Flatten word)
+    else (if bytes_eq verb (codes "sample") then sampled (number_of word) else None)
 asked_of words = None
 
 -- the word that names the model, of a command that reads one

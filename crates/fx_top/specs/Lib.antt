@@ -5,6 +5,7 @@ pub mod Caused
 pub mod CheckedText
 pub mod Command
 pub mod Explored
+pub mod Flattened
 pub mod Messages
 pub mod Outcome
 pub mod Output

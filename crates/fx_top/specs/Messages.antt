@@ -15,7 +15,7 @@ memory_line = codes "out of memory\n"
 -- the line of status 2
 abbrev pub usage_line : List ℕ
 usage_line =
-    codes "usage: check MODEL PLAN, simulate MODEL STIM, generate MODEL PLAN, replay VERILOG STIM, sample NUMBER, explore MODEL RANGE, stream MODEL PLAN\n"
+    codes "usage: check MODEL PLAN, simulate MODEL STIM, generate MODEL PLAN, replay VERILOG STIM, sample NUMBER, explore MODEL RANGE, flatten VERILOG, stream MODEL PLAN\n"
 
 -- the line of status 3
 abbrev pub unread_line : List ℕ → List ℕ
@@ -65,6 +65,10 @@ broken_line file (TooWide name) = name_line file (codes ": too wide: ") name
 broken_line file (NoReset name) = name_line file (codes ": no reset: ") name
 broken_line file (NoAttribute name) = name_line file (codes ": no attribute: ") name
 broken_line file OutOfMemory = memory_line
+
+-- the line of status 8 where an instance isn't linked as it must be
+abbrev pub instance_line : List ℕ → List ℕ → List ℕ
+instance_line file name = name_line file (codes ": bad instance: ") name
 
 -- the line of status 9
 abbrev pub too_long_line : List ℕ → ℕ → List ℕ

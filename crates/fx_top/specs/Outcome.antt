@@ -120,11 +120,15 @@ CanBeDone files (Explore model range) =
 CanBeDone files (Check model plan) = CanDesign files model plan
 CanBeDone files (StreamOf model plan) = CanStream files model plan
 
--- the shelf is steady and no file is in trouble, or neither of its counts rose
-abbrev pub GivesAll : Files → Command → Type 0
-GivesAll files command =
-    (files.steady × (first_trouble files.held (files_of command) ≡ None))
+-- the shelf is steady and none of these files is in trouble, or neither of its counts rose
+abbrev pub GivesFiles : Files → List (List ℕ) → Type 0
+GivesFiles files names =
+    (files.steady × (first_trouble files.held names ≡ None))
     ⊎ ((files.failed → ⊥) × (files.met_overlong → ⊥))
+
+-- so it is of the command's files
+abbrev pub GivesAll : Files → Command → Type 0
+GivesAll files command = GivesFiles files (files_of command)
 
 -- where the command has an output and no device fails, the status is 0 or want of memory
 abbrev pub IsComplete : Files → Stream → Command → ℕ → Type 0

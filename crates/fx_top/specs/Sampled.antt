@@ -5,7 +5,7 @@ use Rattle.cmd_sample.specs.ModelText.{sample_model}
 use Rattle.cmd_sample.specs.Stimulus.{sample_plan}
 use Rattle.fx_io.specs.Sink.{also_took, TookProperPrefix}
 use Rattle.fx_top.specs.declared.answer.Answer.{Answer}
-use Rattle.fx_top.specs.declared.answer.Answer.TheVariants.{Done, OutOfMemory, Usage, CannotRead, CannotWrite, NotMdl, BadTable, BreaksRule, NotVerilog, Broken, TooLong}
+use Rattle.fx_top.specs.declared.answer.Answer.TheVariants.{Done, OutOfMemory, Usage, CannotRead, CannotWrite, NotMdl, BadTable, BreaksRule, NotVerilog, Broken, BadInstance, TooLong}
 use Rattle.fx_top.specs.Answer.{status_of, line_of}
 use Rattle.fx_top.specs.Call.{Stream, IsUntouched, Said}
 use Rattle.fx_top.specs.Command.{Sample, asked_of}
@@ -24,6 +24,7 @@ HasSampleCause count (BadTable file line cause) = ⊥
 HasSampleCause count (BreaksRule line) = TellsSampleRule count line
 HasSampleCause count (NotVerilog file line) = ⊥
 HasSampleCause count (Broken file fault) = ⊥
+HasSampleCause count (BadInstance file name) = ⊥
 HasSampleCause count (TooLong file length) = ⊥
 
 -- a summary was taken whole
@@ -51,6 +52,7 @@ HasSampleWritten IsSummary out (BadTable file line cause) = IsUntouched out
 HasSampleWritten IsSummary out (BreaksRule line) = IsUntouched out
 HasSampleWritten IsSummary out (NotVerilog file line) = IsUntouched out
 HasSampleWritten IsSummary out (Broken file fault) = IsUntouched out
+HasSampleWritten IsSummary out (BadInstance file name) = IsUntouched out
 HasSampleWritten IsSummary out (TooLong file length) = IsUntouched out
 
 -- the call ends by an answer: the status is the answer's, its line was said, and it has its cause

@@ -53,6 +53,12 @@ pub enum Answer<'a> {
         file: &'a str,
         fault: VlFault,
     },
+    /// The first instance of the design in the Verilog text that isn't linked as it must be has this
+    /// name.
+    BadInstance {
+        file: &'a str,
+        name: Text,
+    },
     /// The file has so many bytes.
     TooLong {
         file: &'a str,
@@ -74,7 +80,7 @@ impl Answer<'_> {
             Answer::NotMdl { .. } => 5,
             Answer::BadTable { .. } => 6,
             Answer::BreaksRule { .. } => 7,
-            Answer::NotVerilog { .. } | Answer::Broken { .. } => 8,
+            Answer::NotVerilog { .. } | Answer::Broken { .. } | Answer::BadInstance { .. } => 8,
             Answer::TooLong { .. } => 9,
         }
     }
@@ -89,7 +95,7 @@ impl Answer<'_> {
             Answer::Usage => say(
                 err,
                 &[
-                    b"usage: check MODEL PLAN, simulate MODEL STIM, generate MODEL PLAN, replay VERILOG STIM, sample NUMBER, explore MODEL RANGE, stream MODEL PLAN\n",
+                    b"usage: check MODEL PLAN, simulate MODEL STIM, generate MODEL PLAN, replay VERILOG STIM, sample NUMBER, explore MODEL RANGE, flatten VERILOG, stream MODEL PLAN\n",
                 ],
             ),
             Answer::CannotRead { file } => say(err, &[file.as_bytes(), b": cannot be read\n"]),
@@ -111,6 +117,7 @@ impl Answer<'_> {
                 )
             }
             Answer::Broken { file, fault } => say_fault(err, file, fault),
+            Answer::BadInstance { file, name } => say_name(err, file, b": bad instance: ", name),
             Answer::TooLong { file, length } => {
                 say_number(err, file, b": ", *length, b" bytes, at most 16777216\n")
             }

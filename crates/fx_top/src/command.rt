@@ -29,6 +29,10 @@ pub enum Command<'a> {
         first: &'a str,
         second: &'a str,
     },
+    /// To write the flat module of the design in this file.
+    Flatten {
+        file: &'a str,
+    },
     /// To write the summary of the sample of this number.
     Sample {
         number: u32,
@@ -89,10 +93,13 @@ fn task_of(verb: &str, second: &str) -> Option<Task>
 }
 
 /// The command that a word names over one other, where it names one.
-fn over_one<'a>(verb: &str, word: &str) -> Option<Command<'a>>
+fn over_one<'a>(verb: &str, word: &'a str) -> Option<Command<'a>>
     ensures is { option_map named result ≡ asked_of (verb.now ∷ word.now ∷ []) }
     ensures range { IfSome result HasRange }
 {
+    if verb == "flatten" {
+        return Some(Command::Flatten { file: word });
+    }
     if verb != "sample" {
         return None;
     }

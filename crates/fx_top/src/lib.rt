@@ -15,7 +15,8 @@
 //! that is `IsCheckOf` (`specs/CheckedText.antt`) the model and the plan, and `stream` one that is
 //! `IsStreamedOf` (`specs/Streamed.antt` of `cmd_generate`) these. `sample` writes one that is
 //! `IsSummaryOf` (`specs/Summarized.antt`) a number; `sample_with` does its work by a bench of the
-//! caller's, and `TrueBench` of `cmd_replay` is that of `run`.
+//! caller's, and `TrueBench` of `cmd_replay` is that of `run`. `flatten` writes one that is `IsFlatTextOf`
+//! (`specs/Flattened.antt`) a text of modules.
 //!
 //! The headline is `IsVerilogOf` in `specs/Generated.antt` of `cmd_generate`: the text spells a module
 //! alone, and that module owes the design of the two texts nothing (`IsModuleOf` of `hw_module`,
@@ -28,6 +29,7 @@ mod command;
 mod explore;
 mod fault;
 mod fetch;
+mod flatten;
 mod parts;
 mod response;
 mod sample;

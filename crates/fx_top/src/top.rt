@@ -4,12 +4,14 @@ ghost use Rattle.cmd_sample.specs.Numbers.{greatest_sample};
 ghost use Rattle.fx_top.specs.Call.{files_in, stream_in};
 ghost use Rattle.fx_top.specs.Caused.{IsCarriedOut, Ends};
 ghost use Rattle.fx_top.specs.Command.{asked_of};
+ghost use Rattle.fx_top.specs.Flattened.{IfFlatten, IsCompleteFlat, IsDueFlat};
 ghost use Rattle.fx_top.specs.Outcome.{IfCommand, IsDue, IsComplete};
 ghost use Rattle.fx_top.specs.Sampled.{HasSampleCause, HasSampleWritten, IfSample, IsCompleteSample, IsDueSample};
 ghost use Rattle.fx_top.specs.Summarized.{IsSummed};
 
 use crate::answer::Answer;
 use crate::command::Command;
+use crate::flatten::flatten;
 use crate::sample::sample;
 use crate::task::over_files;
 use cmd_replay::TrueBench;
@@ -24,7 +26,8 @@ use std::thread::Threads;
 /// `generate MODEL PLAN` writes the Verilog text of a model under a plan, spelled by workers of `rt`.
 /// `replay VERILOG STIM` writes what the module of a Verilog text of the subset shows under a stimulus.
 /// `explore MODEL RANGE` writes what each plan of a range is worth on a model, found by workers of
-/// `rt`. `sample NUMBER` writes the summary of the sample of this number. `stream MODEL PLAN` writes the
+/// `rt`. `flatten VERILOG` writes the module that a text of several modules is, with what its instances
+/// hold in place of them. `sample NUMBER` writes the summary of the sample of this number. `stream MODEL PLAN` writes the
 /// Verilog text of a model under a plan in a module with valid and ready on both sides. The files come
 /// from `shelf`, the text goes to `out`, and each status but 0 puts one line to `err`, whose failure
 /// changes nothing.
@@ -45,6 +48,11 @@ pub fn run<R: Threads + Sync, S: Shelf, K: Sink, E: Sink>(
     ensures complete { IfCommand (map string_bytes words.now) (λ command. IsComplete
         (files_in S.held S.steady S.faults S.overlong shelf.old shelf.new)
         (stream_in K.taken K.faults out.old out.new) command result) }
+    ensures flat_due { IfFlatten (map string_bytes words.now) (λ file. IsDueFlat
+        (files_in S.held S.steady S.faults S.overlong shelf.old shelf.new) file result) }
+    ensures flat_complete { IfFlatten (map string_bytes words.now) (λ file. IsCompleteFlat
+        (files_in S.held S.steady S.faults S.overlong shelf.old shelf.new) file
+        (stream_in K.taken K.faults out.old out.new) result) }
     ensures sample_due { IfSample (map string_bytes words.now) (λ number.
         IsDueSample number result) }
     ensures sample_complete { IfSample (map string_bytes words.now) (λ number.
@@ -52,6 +60,7 @@ pub fn run<R: Threads + Sync, S: Shelf, K: Sink, E: Sink>(
 {
     mdl_text::unique();
     vl_read::unique();
+    vl_read::unique_design();
     let answer = carry_out(rt, alloc, words, shelf, out);
     answer.report(err);
     let status = answer.status();
@@ -80,6 +89,7 @@ fn carry_out<'a, R: Threads + Sync, S: Shelf, K: Sink>(
                 second,
             },
         ) => over_files(rt, alloc, task, first, second, shelf, out),
+        Some(Command::Flatten { file }) => flatten(rt, alloc, file, shelf, out),
         Some(Command::Sample { number }) => replayed_sample(rt, alloc, number, out),
     }
 }

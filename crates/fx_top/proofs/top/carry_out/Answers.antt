@@ -33,3 +33,9 @@ returns-in-Some-Sample g c =
     c.of_words.result _ _ c.replayed_sample.result
     (c.in-Some-Sample.is ∙ ap Some c.in-Some-Sample.field-0-is) c.of_words.ensures.is
     (c.replayed_sample.ensures.cause, c.replayed_sample.ensures.written)
+
+pub returns-in-Some-Flatten : goal.returns-in-Some-Flatten
+returns-in-Some-Flatten g c =
+    as_asked (files_in g.S.Shelf.held g.S.Shelf.steady g.S.Shelf.faults g.S.Shelf.overlong c.args.shelf.now
+    c.flatten.new.shelf) (stream_in g.K.Sink.taken g.K.Sink.faults c.args.out.now c.flatten.new.out)
+    c.of_words.result _ _ c.flatten.result (c.in-Some-Flatten.is ∙ ap Some c.in-Some-Flatten.field-0-is) c.of_words.ensures.is (c.flatten.ensures.cause, c.flatten.ensures.written)

@@ -1,5 +1,6 @@
 use Rattle.std.proofs.Common.{map, string_bytes}
 use Rattle.fx_top.specs.Call.{files_in, stream_in}
+use Rattle.fx_top.proofs.Flattening.{flat_due-clause, flat_complete-clause}
 use Rattle.fx_top.proofs.Status.{due-clause, complete-clause}
 use Rattle.fx_top.proofs.Samples.{sample_due-clause, sample_complete-clause}
 use Rattle.fx_top.proofs.top.run.Goals as goal
@@ -35,3 +36,15 @@ returns-clause-sample_complete g c = rw c.status-status.ensures (sample_complete
     (files_in g.S.Shelf.held g.S.Shelf.steady g.S.Shelf.faults g.S.Shelf.overlong c.args.shelf.now c.carry_out-answer.new.shelf)
     (stream_in g.K.Sink.taken g.K.Sink.faults c.args.out.now c.carry_out-answer.new.out)
     (map string_bytes c.args.words.now) c.carry_out-answer.result c.carry_out-answer.ensures)
+
+pub returns-clause-flat_due : goal.returns-clause-flat_due
+returns-clause-flat_due g c = rw c.status-status.ensures (flat_due-clause
+    (files_in g.S.Shelf.held g.S.Shelf.steady g.S.Shelf.faults g.S.Shelf.overlong c.args.shelf.now c.carry_out-answer.new.shelf)
+    (stream_in g.K.Sink.taken g.K.Sink.faults c.args.out.now c.carry_out-answer.new.out)
+    c.unique_design.ensures (map string_bytes c.args.words.now) c.carry_out-answer.result c.carry_out-answer.ensures)
+
+pub returns-clause-flat_complete : goal.returns-clause-flat_complete
+returns-clause-flat_complete g c = rw c.status-status.ensures (flat_complete-clause
+    (files_in g.S.Shelf.held g.S.Shelf.steady g.S.Shelf.faults g.S.Shelf.overlong c.args.shelf.now c.carry_out-answer.new.shelf)
+    (stream_in g.K.Sink.taken g.K.Sink.faults c.args.out.now c.carry_out-answer.new.out)
+    c.unique_design.ensures (map string_bytes c.args.words.now) c.carry_out-answer.result c.carry_out-answer.ensures)

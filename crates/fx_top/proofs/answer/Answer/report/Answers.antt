@@ -25,5 +25,8 @@ returns-in-NotVerilog g c = rw c.in-NotVerilog.is c.say_number-in-NotVerilog.ens
 pub returns-in-Broken : goal.returns-in-Broken
 returns-in-Broken g c = rw c.in-Broken.is c.say_fault.ensures
 
+pub returns-in-BadInstance : goal.returns-in-BadInstance
+returns-in-BadInstance g c = rw c.in-BadInstance.is c.say_name.ensures
+
 pub returns-in-TooLong : goal.returns-in-TooLong
 returns-in-TooLong g c = rw c.in-TooLong.is c.say_number-in-TooLong.ensures
