@@ -1,6 +1,7 @@
 pub mod Elements
 pub mod HandshakeNames
 pub mod Places
+pub mod PlainPlans
 pub mod Ports
 pub mod SteadyPorts
 pub mod Streams

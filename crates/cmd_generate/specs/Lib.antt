@@ -1,5 +1,6 @@
 pub mod Generated
 pub mod Generating
+pub mod Plain
 pub mod Streamed
 pub mod Streaming
 pub mod inner

@@ -4,6 +4,7 @@ pub mod Commands
 pub mod FetchFaults
 pub mod Flat
 pub mod Flattening
+pub mod PlainCalls
 pub mod Plans
 pub mod Refusals
 pub mod SampleOutputs

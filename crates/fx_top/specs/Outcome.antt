@@ -4,9 +4,10 @@ use Rattle.fx_top.specs.Call.{Files, Stream, Absent, Overlong, first_trouble}
 use Rattle.fx_top.specs.Command.{Command, PlanWord, EmptyPlan, Named, Generate, Replay, Simulate, Explore, Check, Stream as StreamOf, OfFiles, asked_of, model_of, verilog_of, plan_of, table_of, first_of, files_of}
 use Rattle.cmd_model.specs.Model.{IsAccepted, IsNoText, IsWithoutDiagram}
 use Rattle.cmd_generate.specs.Generated.{CanBeDesigned, HasNoPlan, IsWithoutDesign}
+use Rattle.cmd_generate.specs.Plain.{HaveStorage}
 use Rattle.cmd_replay.specs.Replayed.{CanBeReplayed, HasFault, IsBadStimulus, IsNoVerilog}
 use Rattle.fx_top.specs.Simulated.{CanBeSimulated, IsSpoilt}
-use Rattle.cmd_generate.specs.Streamed.{CanBeStreamed, IsWithoutStream}
+use Rattle.cmd_generate.specs.Streamed.{CanBeStreamed, IsWithoutStream, TellsStreamRule}
 use Rattle.fx_tables.specs.declared.table.TableCause.{TableCause}
 use Rattle.vl_ast.specs.Conditions.{Fault}
 
@@ -134,4 +135,39 @@ GivesAll files command = GivesFiles files (files_of command)
 abbrev pub IsComplete : Files → Stream → Command → ℕ → Type 0
 IsComplete files out command status =
     CanBeDone files command → GivesAll files command → (out.failed → ⊥)
+    → Contains (0 ∷ 1 ∷ []) status
+
+-- ---- by the empty plan
+
+-- the shelf tells the bytes of a model that keeps its rules, of which the empty plan stores no more
+-- than it may
+pub record CanDesignPlain (files : Files) (model : List ℕ) : Type 0 where
+  pub bytes : List ℕ
+  pub told : Tells files model bytes
+  pub accepted : IsAccepted bytes
+  pub stored : HaveStorage bytes []
+
+-- and of which no rule of ports is broken
+pub record CanStreamPlain (files : Files) (model : List ℕ) : Type 0 where
+  pub plain : CanDesignPlain files model
+  pub steady : (line : List ℕ) → TellsStreamRule plain.bytes [] line → ⊥
+
+-- P, where the word names the empty plan
+abbrev pub IfEmpty : PlanWord → Type 0 → Type 0
+IfEmpty EmptyPlan P = P
+IfEmpty (Named file) P = ⊥
+
+-- so a command by the empty plan has an output, whatever else a plan would have to keep
+abbrev pub CanBeDonePlain : Files → Command → Type 0
+CanBeDonePlain files (Generate model plan) = IfEmpty plan (CanDesignPlain files model)
+CanBeDonePlain files (Replay verilog stimulus) = ⊥
+CanBeDonePlain files (Simulate model stimulus) = ⊥
+CanBeDonePlain files (Explore model range) = ⊥
+CanBeDonePlain files (Check model plan) = IfEmpty plan (CanDesignPlain files model)
+CanBeDonePlain files (StreamOf model plan) = IfEmpty plan (CanStreamPlain files model)
+
+-- and where no device fails, its status is 0 or want of memory
+abbrev pub IsPlainComplete : Files → Stream → Command → ℕ → Type 0
+IsPlainComplete files out command status =
+    CanBeDonePlain files command → GivesAll files command → (out.failed → ⊥)
     → Contains (0 ∷ 1 ∷ []) status

@@ -2,8 +2,8 @@
 //!
 //! `run` says its end once (`ends`): it ends by an answer, with the answer's status, line, cause and
 //! output (`specs/Caused.antt`), over what the call saw of the files and did to the streams
-//! (`specs/Call.antt`). `due` and `complete` say what it owes where the shelf tells what it holds
-//! (`specs/Outcome.antt`). What these cite: `specs/Command.antt` (the words), `specs/Cause.antt` (why an
+//! (`specs/Call.antt`). `due`, `complete` and `plain_complete` say what it owes where the shelf tells
+//! what it holds (`specs/Outcome.antt`). What these cite: `specs/Command.antt` (the words), `specs/Cause.antt` (why an
 //! answer comes), `specs/Answer.antt` and `specs/Messages.antt` (its status and line),
 //! `specs/Output.antt` (the text that is written).
 //!

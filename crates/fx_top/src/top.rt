@@ -5,7 +5,7 @@ ghost use Rattle.fx_top.specs.Call.{files_in, stream_in};
 ghost use Rattle.fx_top.specs.Caused.{IsCarriedOut, Ends};
 ghost use Rattle.fx_top.specs.Command.{asked_of};
 ghost use Rattle.fx_top.specs.Flattened.{IfFlatten, IsCompleteFlat, IsDueFlat};
-ghost use Rattle.fx_top.specs.Outcome.{IfCommand, IsDue, IsComplete};
+ghost use Rattle.fx_top.specs.Outcome.{IfCommand, IsDue, IsComplete, IsPlainComplete};
 ghost use Rattle.fx_top.specs.Sampled.{HasSampleCause, HasSampleWritten, IfSample, IsCompleteSample, IsDueSample};
 ghost use Rattle.fx_top.specs.Summarized.{IsSummed};
 
@@ -53,6 +53,9 @@ pub fn run<R: Threads + Sync, S: Shelf, K: Sink, E: Sink>(
     ensures flat_complete { IfFlatten (map string_bytes words.now) (λ file. IsCompleteFlat
         (files_in S.held S.steady S.faults S.overlong shelf.old shelf.new) file
         (stream_in K.taken K.faults out.old out.new) result) }
+    ensures plain_complete { IfCommand (map string_bytes words.now) (λ command. IsPlainComplete
+        (files_in S.held S.steady S.faults S.overlong shelf.old shelf.new)
+        (stream_in K.taken K.faults out.old out.new) command result) }
     ensures sample_due { IfSample (map string_bytes words.now) (λ number.
         IsDueSample number result) }
     ensures sample_complete { IfSample (map string_bytes words.now) (λ number.
@@ -61,6 +64,7 @@ pub fn run<R: Threads + Sync, S: Shelf, K: Sink, E: Sink>(
     mdl_text::unique();
     vl_read::unique();
     vl_read::unique_design();
+    cmd_generate::plain_plans_make_designs();
     let answer = carry_out(rt, alloc, words, shelf, out);
     answer.report(err);
     let status = answer.status();
