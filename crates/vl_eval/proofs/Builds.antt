@@ -62,7 +62,7 @@ grows-more base before mid after a b = record {
 pub grows-none : (base : ℕ) (ops : List Op) → Grows base ops ops
 grows-none base ops = record { more = []; grown = sym (append-nil ops); ordered = λ o. o }
 
-ordered-more : (base : ℕ) (ops : List Op) (op : Op) → reads_below op (base + length ops) → IsOrdered base ops → IsOrdered base (ops ++ op ∷ [])
+pub ordered-more : (base : ℕ) (ops : List Op) (op : Op) → reads_below op (base + length ops) → IsOrdered base ops → IsOrdered base (ops ++ op ∷ [])
 ordered-more base ops op r o = record {
   at = λ k d below.
       let longer = length-append ops (op ∷ []) in

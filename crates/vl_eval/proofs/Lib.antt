@@ -10,6 +10,7 @@ pub mod Forms
 pub mod Halves
 pub mod LongerLists
 pub mod LoopLists
+pub mod Merges
 pub mod Numbers
 pub mod Operands
 pub mod Outputs

@@ -62,7 +62,7 @@ module _ (by_layer : ByLayer) (m : Module) (scope : Scope) (some : 0 < length (n
   move-below : (k : ℕ) → k < count + length ops → a.move k < count + length arranged.ops
   move-below k low = ⊎_elim
       (λ (less : k < count). let e = a.fixed k less in omega (arith, e, less))
-      (λ (high : count ≤ k). let b = (a.within k high low).1 in let l = a.long in omega (arith, b, l))
+      (λ (high : count ≤ k). (a.within k high low).1)
       (cases_lt k count)
 
   new-wired : AreWired m scope (map a.move slots) arranged.ops
@@ -90,11 +90,10 @@ module _ (by_layer : ByLayer) (m : Module) (scope : Scope) (some : 0 < length (n
       → IsCaptured m scope (map a.move slots) arranged.ops (moved_capture a.move capture) name first condition value
   moved-captured capture name first condition value k =
       let within = a.within capture.from k.above k.below in
-      let l = a.long in
       record {
         to = ap a.move k.to ∙ sym (slot-moved name);
         above = within.0;
-        below = (let b = within.1 in omega (arith, b, l));
+        below = within.1;
         is = λ values st f.
             subst (λ (r : List ℕ → ℕ). back values capture.from ≡ next_in (nets_in scope) r name first condition value) (row-moved values)
             (k.is (back values) (a.settled values st) (old-fit values f));

@@ -16,17 +16,17 @@ reads-all (One op part) end h = h.0
 reads-all (Beside left right places) end h = (h.0, h.1)
 reads-all _ end h = h
 
-still-reads : (f : ℕ → ℕ) (op : Op) (end end' : ℕ) → reads_below op end → each_of (λ r. f r < end') op → reads_below (renamed f op) end'
+pub still-reads : (f : ℕ → ℕ) (op : Op) (end end' : ℕ) → reads_below op end → each_of (λ r. f r < end') op → reads_below (renamed f op) end'
 still-reads f (Constant bits) end end' h k = tt
 still-reads f (One op part) end end' h k = (k, h.1)
 still-reads f (Beside left right places) end end' h k = (k.0, k.1, h.2)
 still-reads f _ end end' h k = k
 
-same-value : (f : ℕ → ℕ) (op : Op) (values : ℕ → ℕ) → op_value (renamed f op) values ≡ op_value op (λ r. values (f r))
+pub same-value : (f : ℕ → ℕ) (op : Op) (values : ℕ → ℕ) → op_value (renamed f op) values ≡ op_value op (λ r. values (f r))
 same-value f (Constant bits) values = refl
 same-value f _ values = refl
 
-each-both : {P Q R : ℕ → Type 0} (op : Op) → ((k : ℕ) → P k → Q k → R k) → each_of P op → each_of Q op → each_of R op
+pub each-both : {P Q R : ℕ → Type 0} (op : Op) → ((k : ℕ) → P k → Q k → R k) → each_of P op → each_of Q op → each_of R op
 each-both (Constant bits) f p q = tt
 each-both (One op a) f p q = f a p q
 each-both (Two op a b) f p q = (f a p.0 q.0, f b p.1 q.1)
@@ -34,7 +34,7 @@ each-both (Beside a b places) f p q = (f a p.0 q.0, f b p.1 q.1)
 each-both (Choose a b d) f p q = (f a p.0 q.0, f b p.1 q.1, f d p.2 q.2)
 each-both (Next register) f p q = (f register.reset p.0 q.0, f register.test p.1 q.1, f register.value p.2 q.2, f register.kept p.3 q.3)
 
-each-one : {P Q : ℕ → Type 0} (op : Op) → ((k : ℕ) → P k → Q k) → each_of P op → each_of Q op
+pub each-one : {P Q : ℕ → Type 0} (op : Op) → ((k : ℕ) → P k → Q k) → each_of P op → each_of Q op
 each-one op f p = each-both op (λ k x y. f k x) p p
 
 -- a higher level is above what a lower one is
@@ -75,7 +75,7 @@ levels-rise l l' n n' e e' a b low le =
 pub moved-fixed : (base : ℕ) (places : List ℕ) (k : ℕ) → k < base → moved base places k ≡ k
 moved-fixed base places k low = cond-true (nat_lt k base) k (slice_index places (k - base)) (lt-ltb k base low)
 
-moved-op : (base : ℕ) (places : List ℕ) (k : ℕ) → base ≤ k → moved base places k ≡ slice_index places (k - base)
+pub moved-op : (base : ℕ) (places : List ℕ) (k : ℕ) → base ≤ k → moved base places k ≡ slice_index places (k - base)
 moved-op base places k high = cond-false (nat_lt k base) k (slice_index places (k - base)) (le-ltb k base high)
 
 module _ (base : ℕ) (ops : List Op) (entries sorted places : List ℕ) (few : length ops ≤ 2 ^ 29) (ordered : IsOrdered base ops) (all : AreEntries base ops entries)
@@ -199,11 +199,11 @@ module _ (base : ℕ) (ops : List Op) (entries sorted places : List ℕ) (few : 
           ∙ ap (renamed move) (get_or_default ops k (Constant 0) d low))
           ∙ same-value move (slice_index_or ops k d) values
 
-    pub moved-within : (k : ℕ) → base ≤ k → k < base + length ops → (base ≤ move k) × (move k < base + length ops)
+    pub moved-within : (k : ℕ) → base ≤ k → k < base + length ops → (base ≤ move k) × (move k < base + length arranged)
     moved-within k high low =
         let s = spot (k - base) (omega (arith, high, low)) in
         let e = moved-op base places k high in
-        let place = s.place in let b = s.low in let l = sorted-long in
+        let place = s.place in let b = s.low in let l = length-map sorted (op_at base places ops) in
         (omega (arith, e, place), omega (arith, e, place, b, l))
 
 -- one more operation

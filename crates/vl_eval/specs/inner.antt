@@ -2,6 +2,7 @@
 pub mod Assigns
 pub mod Contexts
 pub mod Edges
+pub mod Merge
 pub mod OperatorSteps
 pub mod Ops
 pub mod Order

@@ -4,6 +4,7 @@ ghost use Rattle.vl_eval.specs.inner.Ops.{IsOrdered};
 
 use crate::code::Code;
 use crate::leveling::{kind_of, level_of};
+use crate::merging::{Merged, merge};
 use crate::ops::{Op, Register};
 use crate::plan::Capture;
 use fx_io::OutOfMemory;
@@ -85,7 +86,7 @@ fn new_place(place: usize, base: usize, places: &[usize]) -> usize
 }
 
 /// The same operation over the new places.
-fn renamed_op(op: Op, base: usize, moves: &[usize]) -> Op
+pub fn renamed_op(op: Op, base: usize, moves: &[usize]) -> Op
     ensures { result ≡ renamed (moved base moves.now) op }
 {
     match op {
@@ -168,6 +169,24 @@ fn move_captures(captures: &mut [Capture], base: usize, places: &[usize])
     }
 }
 
+/// Leaves out operations that do what an earlier one does.
+fn unite(alloc: Global, base: usize, built: &mut Arranged) -> Result<(), OutOfMemory>
+    requires ordered { IsOrdered base built.old.ops }
+    requires few { length built.old.ops ≤ 2 ^ 20 }
+    ensures { OnOk result (IsArranged base built.old built.new) }
+{
+    let Some(_end) = base.checked_add(built.ops.len()) else {
+        // word: words and operations are counted in 64 bits
+        return Err(OutOfMemory);
+    };
+    let united = merge(alloc, base, &built.ops)?;
+    let Merged { ops, places } = united;
+    move_slots(built.slots.as_mut_slice(), base, places.as_slice());
+    move_captures(built.captures.as_mut_slice(), base, places.as_slice());
+    built.ops = ops;
+    Ok(())
+}
+
 /// Sorts operations that aren't too many for it.
 fn rearrange(alloc: Global, base: usize, built: &mut Arranged) -> Result<(), OutOfMemory>
     requires ordered { IsOrdered base built.old.ops }
@@ -194,8 +213,19 @@ fn rearrange(alloc: Global, base: usize, built: &mut Arranged) -> Result<(), Out
     Ok(())
 }
 
-/// Sorts operations by level and, within a level, by kind, so that the jump on the kind of an operation
-/// is foreseen. An operation is of a level above those that it reads.
+/// Leaves out repeated operations, and sorts the others.
+fn unite_and_sort(alloc: Global, base: usize, built: &mut Arranged) -> Result<(), OutOfMemory>
+    requires ordered { IsOrdered base built.old.ops }
+    requires few { length built.old.ops ≤ 2 ^ 20 }
+    ensures { OnOk result (IsArranged base built.old built.new) }
+{
+    unite(alloc, base, built)?;
+    rearrange(alloc, base, built)
+}
+
+/// Leaves out operations that do what an earlier one does, and sorts the others by level and, within a
+/// level, by kind, so that the jump on the kind of an operation is foreseen. An operation is of a level
+/// above those that it reads.
 pub fn arrange(alloc: Global, base: usize, mut built: Arranged) -> Result<Arranged, OutOfMemory>
     requires { IsOrdered base built.ops }
     ensures { IfOk result (IsArranged base built) }
@@ -203,7 +233,7 @@ pub fn arrange(alloc: Global, base: usize, mut built: Arranged) -> Result<Arrang
     if built.ops.len() > MOST {
         return Ok(built);
     }
-    match rearrange(alloc, base, &mut built) {
+    match unite_and_sort(alloc, base, &mut built) {
         Ok(()) => Ok(built),
         Err(wanting) => {
             drop(built);

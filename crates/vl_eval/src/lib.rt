@@ -4,9 +4,10 @@
 //! each register takes become operations over places of values (`plan`, `assigning`, `building`,
 //! `leaves`, `ops`). Those whose numbers have at most 64 bits are held as steps alone, which are less
 //! than half as long, and whose sums and products are of 64 bits (`code`, `steps`, `sweeping`).
-//! Widths, signs and contexts are worked out then (`contexts`, `operators`), and the operations, if
-//! they aren't too many, are sorted by level and kind (`leveling`, `arranging`), so that the jump on
-//! the kind of an operation is foreseen. At run time no name is looked up: `Machine::edge` captures what
+//! Widths, signs and contexts are worked out then (`contexts`, `operators`). If the operations aren't too
+//! many, those that do what an earlier one does are left out (`merging`), and the others are sorted by
+//! level and kind (`leveling`, `arranging`), so that the jump on the kind of an operation is foreseen. At
+//! run time no name is looked up: `Machine::edge` captures what
 //! the registers take, puts the inputs in and works out all operations but constants in one sweep. Its
 //! contract: the machine's row is first the first row of the module with all registers and inputs 0, and
 //! each edge leads from a row to the next (`row`); a fault comes only where its condition is the first
@@ -17,7 +18,7 @@
 //! (`Machine`) and which inputs an edge is given (`EdgeBits`). `specs/inner` is cited by private contracts
 //! alone: what an operation gives (`Ops`, `Steps`, `OperatorSteps`), what a place shows of an expression (`PlaceBits`,
 //! `Contexts`, `Site`), of an assignment and a register (`Assigns`), and what a plan is
-//! (`PlanOperations`, `Order`, `Edges`).
+//! (`PlanOperations`, `Order`, `Merge`, `Edges`).
 #![tactic(auto)]
 
 mod adding;
@@ -29,6 +30,7 @@ mod contexts;
 mod leaves;
 mod leveling;
 mod machine;
+mod merging;
 mod operators;
 mod ops;
 mod plan;

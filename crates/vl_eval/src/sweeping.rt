@@ -6,7 +6,7 @@ use crate::ops::{Op, chosen_word, signed_down, value_of};
 use crate::steps::{LONGEST, Pair, Step};
 
 /// The low 64 bits.
-fn low(bits: u128) -> u64
+pub fn low(bits: u128) -> u64
     ensures { result ≡ bits % 2 ^ 64 }
 {
     (bits & LONGEST) as u64

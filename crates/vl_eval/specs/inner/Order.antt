@@ -82,13 +82,14 @@ abbrev pub op_at : ℕ → List ℕ → List Op → ℕ → Op
 op_at base places ops entry =
     renamed (moved base places) (slice_index_or ops (number_of entry) (Constant 0))
 
--- the same operations in another order, and the places of names and captures in it
+-- the same operations in another order, without some that do what others do, and the places of names
+-- and captures in it
 pub record IsArranged (base : ℕ) (built arranged : Arranged) : Type 0 where
   pub move : ℕ → ℕ
   pub fixed : (k : ℕ) → k < base → move k ≡ k
   pub within : (k : ℕ) → base ≤ k → k < base + length built.ops → (base ≤ move k)
-      × (move k < base + length built.ops)
-  pub long : length arranged.ops ≡ length built.ops
+      × (move k < base + length arranged.ops)
+  pub few : length arranged.ops ≤ length built.ops
   pub ordered : IsOrdered base arranged.ops
   pub settled : (values : ℕ → ℕ) → IsSettled base arranged.ops values
       → IsSettled base built.ops (λ place. values (move place))

@@ -1,4 +1,4 @@
-use Rattle.std.proofs.Common.{◌≡◌, ◌<◌, ℕ, length, map, slice_index, sym, ap, subst, ◌∙◌}
+use Rattle.std.proofs.Common.{◌≡◌, ◌<◌, ◌≤◌, ◌+◌, ℕ, length, map, slice_index, sym, ap, subst, ◌∙◌, arith}
 use Rattle.std.specs.List.Sorted.{IsNonDecreasing}
 use Rattle.std.proofs.lemmas.List.{with_items_is}
 use Rattle.std.proofs.lemmas.List.Sorted.{IsNonDecreasingBy-from_sort}
@@ -48,8 +48,9 @@ returns c =
     record {
       move = moved base places;
       fixed = moved-fixed base places;
-      within = moved-within base ops entries sorted places few c.requires.ordered all same rising there;
-      long = ap length is ∙ arranged-long base ops entries sorted places few c.requires.ordered all same rising there;
+      within = subst (λ os. (k : ℕ) → base ≤ k → k < base + length ops → (base ≤ moved base places k) × (moved base places k < base + length os)) (sym is)
+          (moved-within base ops entries sorted places few c.requires.ordered all same rising there);
+      few = (let long = ap length is ∙ arranged-long base ops entries sorted places few c.requires.ordered all same rising there in omega (arith, long));
       ordered = subst (λ os. IsOrdered base os) (sym is) (arranged-ordered base ops entries sorted places few c.requires.ordered all same rising there);
       settled = λ values s. arranged-settled base ops entries sorted places few c.requires.ordered all same rising there values (subst (λ os. IsSettled base os values) is s);
       slots_are = with_items_is c.args.built.now.slots c.move_slots.new.slots (c.move_slots.auto.slots ∙ c.as_mut_slice.ensures.len)
