@@ -1,14 +1,17 @@
 -- Net after net gets what stands for it.
-use Rattle.std.proofs.Common.{◌≡◌, ◌≢◌, ℕ, zero, suc, ◌+◌, ◌<◌, ◌≤◌, inl, inr, Bool, true, false, List, [], ◌∷◌, map, length, All, Contains, set, slice_index, refl, ap, sym, ◌∙◌, subst, arith}
+use Rattle.std.proofs.Common.{◌≡◌, ◌≢◌, ℕ, zero, suc, ◌+◌, ◌<◌, ◌≤◌, inl, inr, Bool, true, false, List, [], ◌∷◌, map, length, All, Contains, set, slice_index, refl, ap, sym, ◌∙◌, subst, arith, ℤ}
 use Rattle.std.proofs.Common.{length-set}
 use Rattle.std.proofs.lemmas.Bool.{cases_eq}
 use Rattle.std.proofs.lemmas.List.{get_or-set_same, get_or-set_other}
 use Rattle.std.proofs.lemmas.Option.{get_or_from_slice_get, slice_get-get_or}
+use Rattle.math_num.specs.Word.{InWord, IsWrapped}
 use Rattle.hw_net.specs.declared.netlist.Net.{Net}
 use Rattle.hw_net.specs.declared.netlist.NetKind.{NetKind}
 use Rattle.hw_net.specs.declared.netlist.NetKind.TheVariants.{Comb, Reg, EnReg, Bridge, Unit, Counter}
-use Rattle.hw_net.specs.declared.netlist.NetOp.TheVariants.{Choose, Resize}
+use Rattle.hw_net.specs.declared.netlist.NetOp.TheVariants.{Const}
 use Rattle.hw_net.specs.Netlist.{reads}
+use Rattle.hw_net.specs.NetRows.{operands_at}
+use Rattle.hw_net.specs.Operation.{Operands, given_by}
 use Rattle.hw_net.specs.Products.{net_at, no_net, places}
 use Rattle.hw_order.specs.Order.{IsOrder}
 use Rattle.hw_refine.specs.Redirects.{redirected}
@@ -17,7 +20,8 @@ use Rattle.hw_renumber.proofs.Products.{further}
 use Rattle.math_list.proofs.Elements.{all-at, all-in}
 use Rattle.hw_fold.specs.inner.Pins.{is_marked}
 use Rattle.hw_fold.specs.inner.Fold.{CanFold}
-use Rattle.hw_fold.specs.inner.Roots.{ArePinned, DoesSame, Fold, IsAlone, IsFolding, IsFound, StandsFor, fold_of}
+use Rattle.hw_fold.specs.inner.Roots.{ArePinned, CanShow, DoesSame, Fold, IsAlone, IsFolding, IsFound, IsPassed, StandsFor, fold_of}
+use Rattle.hw_fold.proofs.Constants.{IsConst, const-same, operands-same}
 use Rattle.hw_fold.proofs.Numbers.{places-at}
 
 set-same : (xs : List ℕ) (k v : ℕ) → k < length xs → place_in xs k ≡ v → set xs k v ≡ xs
@@ -125,48 +129,62 @@ module _ (rank : ℕ → ℕ) (fold : Fold) (k : ℕ) (inside : k < length fold.
     kinds-still : (i j : ℕ) → i < length fold.nets → j < length fold.nets → redirected root (at i).kind ≡ redirected root (at j).kind → redirected root' (at i).kind ≡ redirected root' (at j).kind
     kinds-still i j one two e = sym (kind-over i one) ∙ ap (redirected root') e ∙ kind-over j two
 
-    read-of : (j : ℕ) → j < length fold.nets → (read : ℕ) → (at j).kind ≡ Comb Resize (read ∷ []) → read < length fold.nets
-    read-of j below read e = reads-below j below read (subst (λ (kind : NetKind). Contains (reads kind) read) (sym e) (0, omega arith, refl))
-
-    chosen-of : (j : ℕ) → j < length fold.nets → (test one second : ℕ) → (at j).kind ≡ Comb Choose (test ∷ one ∷ second ∷ []) → (one < length fold.nets) × (second < length fold.nets)
-    chosen-of j below test one second e = (
-      reads-below j below one (subst (λ (kind : NetKind). Contains (reads kind) one) (sym e) (1, omega arith, refl)),
-      reads-below j below second (subst (λ (kind : NetKind). Contains (reads kind) second) (sym e) (2, omega arith, refl)),
-    )
-
-    same-own : DoesSame fold.nets root' k other
-    same-own = elim is.same [
-      | inl e ↦ inl (kinds-still other k is.root.inside inside e)
-      | inr (inl c) ↦ inr (inl (record { read = c.read; is = c.is; same = sym (over c.read (read-of k inside c.read c.is)) ∙ ap root' c.same ∙ root-of-other }))
-      | inr (inr c) ↦ inr (inr (record {
-        test = c.test;
-        one = c.one;
-        second = c.second;
-        is = c.is;
-        one_same = sym (over c.one (chosen-of k inside c.test c.one c.second c.is).0) ∙ ap root' c.one_same ∙ root-of-other;
-        second_same = sym (over c.second (chosen-of k inside c.test c.one c.second c.is).1) ∙ ap root' c.second_same ∙ root-of-other;
-      }))
-    ]
-
-    same-else : (j : ℕ) → j ≢ k → j < length fold.nets → DoesSame fold.nets root' j (root j)
-    same-else j apart below = elim (folding.same j below) [
-      | inl e ↦ inl (kinds-still (root j) j (folding.inside j below) below e)
-      | inr (inl c) ↦ inr (inl (record { read = c.read; is = c.is; same = sym (over c.read (read-of j below c.read c.is)) ∙ ap root' c.same ∙ over j below ∙ root-else j apart }))
-      | inr (inr c) ↦ inr (inr (record {
-        test = c.test;
-        one = c.one;
-        second = c.second;
-        is = c.is;
-        one_same = sym (over c.one (chosen-of j below c.test c.one c.second c.is).0) ∙ ap root' c.one_same ∙ over j below ∙ root-else j apart;
-        second_same = sym (over c.second (chosen-of j below c.test c.one c.second c.is).1) ∙ ap root' c.second_same ∙ over j below ∙ root-else j apart;
-      }))
-    ]
-
     -- what holds of the net and of the others holds of all
     each : (P : ℕ → ℕ → Type 0) → P k other → ((j : ℕ) → j ≢ k → j < length fold.nets → P j (root j)) → (j : ℕ) → j < length fold.nets → P j (root' j)
     each P own else j below = elim (cases_eq j k) [
       | inl same ↦ subst (λ (i : ℕ). P i (root' i)) (sym same) (subst (P k) (sym root-own) own)
       | inr apart ↦ subst (P j) (sym (root-else j apart)) (else j apart below)
+    ]
+
+    inside' : (j : ℕ) → j < length fold.nets → root' j < length fold.nets
+    inside' = each (λ j o. o < length fold.nets) is.root.inside (λ j apart below. folding.inside j below)
+
+    wide' : (j : ℕ) → j < length fold.nets → (at (root' j)).width ≡ (at j).width
+    wide' = each (λ j o. (at o).width ≡ (at j).width) is.root.wide (λ j apart below. folding.wide j below)
+
+    sign' : (j : ℕ) → j < length fold.nets → (at (root' j)).signed ≡ (at j).signed
+    sign' = each (λ j o. (at o).signed ≡ (at j).signed) is.root.sign (λ j apart below. folding.sign j below)
+
+    const' : (j : ℕ) → j < length fold.nets → (value : ℤ) (args : List ℕ) → (at j).kind ≡ Comb (Const value) args → IsConst (at (root' j)).kind value
+    const' = each (λ j o. (value : ℤ) (args : List ℕ) → (at j).kind ≡ Comb (Const value) args → IsConst (at o).kind value)
+        (const-same fold.nets root k other is.same) (λ j apart below. const-same fold.nets root j (root j) (folding.same j below))
+
+    -- what stands for nets shows what they can show
+    can-show : (shown : ℕ → ℤ) → CanShow fold.nets shown → CanShow fold.nets (λ j. shown (root' j))
+    can-show shown can = record {
+      words = can.words;
+      in_word = λ j below. subst (λ (s : Bool). InWord (at j).width s (shown (root' j))) (sign' j below)
+          (subst (λ (w : ℕ). InWord w (at (root' j)).signed (shown (root' j))) (wide' j below) (can.in_word (root' j) (inside' j below)));
+      constants = λ j value args below is.
+          let c = const' j below value args is in
+          subst (λ (s : Bool). IsWrapped value (at j).width s (shown (root' j))) (sign' j below)
+          (subst (λ (w : ℕ). IsWrapped value w (at (root' j)).signed (shown (root' j))) (wide' j below) (can.constants (root' j) value c.0 (inside' j below) c.1));
+    }
+
+    passed-still : (j o : ℕ) → j < length fold.nets → root' o ≡ o → IsPassed fold.nets root j o → IsPassed fold.nets root' j o
+    passed-still j o below own p = record {
+      op = p.op;
+      args = p.args;
+      is = p.is;
+      reads = p.reads;
+      gives = λ inputs shown can.
+          let e : operands_at (λ i. shown (root' (root i))) p.args ≡ operands_at (λ i. shown (root' i)) p.args =
+          operands-same (λ i. shown (root' (root i))) (λ i. shown (root' i)) p.args
+          (λ read c. ap shown (over read (reads-below j below read (subst (λ (kind : NetKind). Contains (reads kind) read) (sym p.is) c)))) in
+          subst (λ (v : ℕ). IsWrapped (given_by p.op inputs (operands_at (λ i. shown (root' i)) p.args)) (at j).width (at j).signed (shown v)) own
+          (subst (λ (of : Operands). IsWrapped (given_by p.op inputs of) (at j).width (at j).signed (shown (root' o))) e (p.gives inputs (λ i. shown (root' i)) (can-show shown can)));
+    }
+
+    same-own : DoesSame fold.nets root' k other
+    same-own = elim is.same [
+      | inl e ↦ inl (kinds-still other k is.root.inside inside e)
+      | inr p ↦ inr (passed-still k other inside root-of-other p)
+    ]
+
+    same-else : (j : ℕ) → j ≢ k → j < length fold.nets → DoesSame fold.nets root' j (root j)
+    same-else j apart below = elim (folding.same j below) [
+      | inl e ↦ inl (kinds-still (root j) j (folding.inside j below) below e)
+      | inr p ↦ inr (passed-still j (root j) below (over j below ∙ root-else j apart) p)
     ]
 
     still-alone : (j : ℕ) → j ≢ k → other ≢ j → IsAlone fold.roots (length fold.nets) j → IsAlone roots' (length fold.nets) j
@@ -181,10 +199,10 @@ module _ (rank : ℕ → ℕ) (fold : Fold) (k : ℕ) (inside : k < length fold.
     pub goes : IsFolding rank (rank k + 1) (record fold { roots = roots'; done = done' })
     goes = record {
       sizes = record { there = folding.sizes.there; alone = folding.sizes.alone; roots = (let a = folding.sizes.roots in omega (arith, a, length-set fold.roots k other)); done = done-long };
-      inside = each (λ j o. o < length fold.nets) is.root.inside (λ j apart below. folding.inside j below);
+      inside = inside';
       settled = each (λ j o. root' o ≡ o) root-of-other (λ j apart below. over j below ∙ root-else j apart);
-      wide = each (λ j o. (at o).width ≡ (at j).width) is.root.wide (λ j apart below. folding.wide j below);
-      sign = each (λ j o. (at o).signed ≡ (at j).signed) is.root.sign (λ j apart below. folding.sign j below);
+      wide = wide';
+      sign = sign';
       same = each (λ j o. DoesSame fold.nets root' j o) same-own same-else;
       low = each (λ j o. rank o ≤ rank j) (let a = folding.early other is.root.inside is.root.settled in omega (arith, a)) (λ j apart below. folding.low j below);
       early = early';

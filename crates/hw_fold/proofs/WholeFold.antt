@@ -2,21 +2,23 @@
 use Rattle.std.proofs.Common.{◌≡◌, ℕ, ◌<◌, ◌≤◌, inl, inr, List, [], ◌∷◌, map, flat_map, length, All, Contains, Option, None, Some, IsSome, slice_get, slice_index_or, refl, ap, sym, ◌∙◌, subst, arith}
 use Rattle.std.specs.List.{AllZip}
 use Rattle.std.proofs.lemmas.Option.{get_or_from_slice_get, slice_get-get_or, slice_get_within}
+use Rattle.math_num.specs.Word.{IsWord}
 use Rattle.hw_net.specs.declared.netlist.Frame.{Frame}
 use Rattle.hw_net.specs.declared.netlist.Net.{Net}
 use Rattle.hw_net.specs.declared.netlist.NetLabel.{NetLabel}
 use Rattle.hw_net.specs.declared.netlist.NetPort.{NetPort}
-use Rattle.hw_net.specs.declared.netlist.NetOp.TheVariants.{Choose, Input, Resize}
+use Rattle.hw_net.specs.declared.netlist.NetOp.TheVariants.{Input}
 use Rattle.hw_net.specs.declared.netlist.NetKind.{NetKind}
 use Rattle.hw_net.specs.declared.netlist.NetKind.TheVariants.{Comb, Reg, EnReg, Bridge, Unit, Counter}
 use Rattle.hw_net.specs.Circuit.{Circuit}
 use Rattle.hw_net.specs.Emittable.{IsEmittable}
 use Rattle.hw_net.specs.Frames.{counted_frame, counter_of, frame_of}
 use Rattle.hw_net.specs.Netlist.{IsKind, IsNetlist, reads, reads_now}
+use Rattle.hw_net.specs.NetRows.{Inputs, NetRows, NetShows, Rows}
 use Rattle.hw_net.specs.Products.{Product, net_at, no_net, places, products_of}
 use Rattle.hw_refine.specs.Redirects.{redirected}
 use Rattle.hw_refine.specs.Refines.{IsReadBy, KeepsLabel, face, held_count}
-use Rattle.hw_refine.specs.Represents.{IsRepresented, Represents}
+use Rattle.hw_refine.specs.Represents.{HoldsAtRoots, IsRepresented, Represents}
 use Rattle.hw_refine.proofs.Lists.{by-place, combs-in, products-are, units-in}
 use Rattle.math_list.proofs.Elements.{found, stands, all-at, all-in, from-map}
 use Rattle.math_list.proofs.Places.{map_there, there_map}
@@ -26,7 +28,8 @@ use Rattle.hw_renumber.specs.Sound.{CanStay, IsCounted, IsStanding}
 use Rattle.hw_renumber.proofs.Products.{comb-zip, counter-at, further, held-moved, now-read, ones, unit-zip, zip-map}
 use Rattle.hw_renumber.proofs.Sound.{reads-moved}
 use Rattle.hw_fold.specs.inner.Fold.{IsFolded}
-use Rattle.hw_fold.specs.inner.Roots.{IsAlone}
+use Rattle.hw_fold.specs.inner.Roots.{CanShow, IsAlone, IsPassed}
+use Rattle.hw_fold.proofs.Constants.{reads-something}
 use Rattle.hw_fold.proofs.Numbers.{places-at, places-below, places-is}
 
 -- only an input is redirected to an input
@@ -70,8 +73,7 @@ module _ (old : Circuit) (runs : IsNetlist old) (emits : IsEmittable old) (roots
   input-same : (k input : ℕ) → k < count → (net_at old.nets k).kind ≡ Comb (Input input) [] → (net_at old.nets (root k)).kind ≡ Comb (Input input) []
   input-same k input below is = elim (folded.folding.same k below) [
     | inl e ↦ input-of root (net_at old.nets (root k)).kind input (e ∙ ap (redirected root) is)
-    | inr (inl copy) ↦ absurd (let e : Comb (Input input) [] ≡ Comb Resize (copy.read ∷ []) = sym is ∙ copy.is in cc e)
-    | inr (inr choice) ↦ absurd (let e : Comb (Input input) [] ≡ Comb Choose (choice.test ∷ choice.one ∷ choice.second ∷ []) = sym is ∙ choice.is in cc e)
+    | inr p ↦ absurd (let r = reads-something old.nets root k (root k) p (Input input) [] is in omega (arith, r))
   ]
 
   frame-kept : (i b : ℕ) (frame : Frame) → slice_get (places count) i ≡ Some b → frame_of (net_at old.nets b).kind ≡ Some frame → IsCounted old (places count) frame
@@ -152,6 +154,22 @@ module _ (old : Circuit) (runs : IsNetlist old) (emits : IsEmittable old) (roots
   faces-same [] below = refl
   faces-same (p ∷ ports) below = (let a = face-same p (below p (0, omega arith, refl)) in let b = faces-same ports (λ q c. below q (further p q ports c)) in λ i. a i ∷ b i)
 
+  -- what the new nets show, the old ones can show
+  can-show : (n : ℕ) (inputs : Inputs) (rows : Rows) → NetRows new n inputs rows → (c : ℕ) → c < n → CanShow old.nets (λ j. rows j c)
+  can-show n inputs rows are c within = record {
+    words = λ j below. all-at (λ (net : Net). IsWord net.width net.signed) old.nets runs.words j (net_at old.nets j) (net-there j below);
+    in_word = λ j below. are.in_word j (moved j) (at-new j below) c within;
+    constants = λ j value args below is.
+        (subst (λ (kind : NetKind). NetShows old.cycles n inputs rows (moved j).width (moved j).signed kind (rows j)) (ap (redirected root) is)
+        (are.shows j (moved j) (at-new j below))) c within;
+  }
+
+  holds : (k : ℕ) (was : Net) → slice_get old.nets k ≡ Some was → IsPassed old.nets root k (root k) → HoldsAtRoots new root k was
+  holds k was is p n inputs rows are =
+      subst (λ (net : Net). NetShows old.cycles n inputs (λ j. rows (root j)) net.width net.signed net.kind (rows (root k))) (get_or_from_slice_get old.nets k was no_net is)
+      (subst (λ (kind : NetKind). NetShows old.cycles n inputs (λ j. rows (root j)) (net_at old.nets k).width (net_at old.nets k).signed kind (rows (root k))) (sym p.is)
+      (λ c within. p.gives (λ number. inputs number c) (λ j. rows j c) (can-show n inputs rows are c within)))
+
   represented : (k : ℕ) (was : Net) → slice_get old.nets k ≡ Some was → IsRepresented new root k was
   represented k was is =
       let below = slice_get_within old.nets k was is in
@@ -163,15 +181,7 @@ module _ (old : Circuit) (runs : IsNetlist old) (emits : IsEmittable old) (roots
         sign = folded.folding.sign k below ∙ ap (λ (n : Net). n.signed) e;
         kind = elim (folded.folding.same k below) [
           | inl h ↦ inl (h ∙ ap (λ (n : Net). redirected root n.kind) e)
-          | inr (inl copy) ↦ inr (inl (record { read = copy.read; is = ap (λ (n : Net). n.kind) (sym e) ∙ copy.is; same = copy.same }))
-          | inr (inr choice) ↦ inr (inr (record {
-            test = choice.test;
-            one = choice.one;
-            other = choice.second;
-            is = ap (λ (n : Net). n.kind) (sym e) ∙ choice.is;
-            one_same = choice.one_same;
-            other_same = choice.second_same;
-          }))
+          | inr p ↦ inr (holds k was is p)
         ];
       }
 

@@ -1,4 +1,5 @@
 -- What only private contracts cite.
 pub mod Fold
+pub mod Passing
 pub mod Pins
 pub mod Roots

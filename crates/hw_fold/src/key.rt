@@ -1,4 +1,5 @@
 //! What a net does, in short.
+use crate::passing::root_of;
 use hw_net::{Frame, Net, NetKind, NetOp};
 
 /// Odd, with its bits far from a pattern.
@@ -64,14 +65,6 @@ impl Key {
             NetOp::Choose => self.with(21),
             NetOp::Slice { high, low } => self.with(22).with(u64::from(high)).with(u64::from(low)),
         }
-    }
-}
-
-/// What stands for a net, and 0 for one that isn't there.
-fn root_of(net: u32, roots: &[u32]) -> u32 {
-    match roots.get(net as usize) {
-        Some(root) => *root,
-        None => 0,
     }
 }
 

@@ -3,12 +3,13 @@ ghost use Rattle.std.specs.Prelude.{◌≡◌, ◌<◌, IfOk, true, false, lengt
 ghost use Rattle.hw_renumber.specs.Renumbered.{place_in};
 ghost use Rattle.hw_fold.specs.inner.Fold.{IsOpen};
 ghost use Rattle.hw_fold.specs.inner.Pins.{is_marked};
-ghost use Rattle.hw_fold.specs.inner.Roots.{fold_of, HasSizes, IsChoiceBetween, IsRoot, IsFound, StandsFor};
+ghost use Rattle.hw_fold.specs.inner.Roots.{fold_of, HasSizes, IsRoot, IsFound, StandsFor};
 
 use crate::alike::is_alike;
 use crate::key::{Key, key_of};
+use crate::passing::{passed, root_of};
 use fx_io::OutOfMemory;
-use hw_net::{Net, NetKind, NetOp};
+use hw_net::Net;
 use std::collections::BTreeMap;
 
 /// Whether a net is done, stands for itself, and may stand for others.
@@ -43,58 +44,17 @@ fn can_stand(nets: &[Net], alone: &[bool], roots: &[u32], done: &[bool], k: u32,
     is_free(alone, roots, done, other) && have_one_word(&nets[other as usize], &nets[k as usize])
 }
 
-/// What stands for what a net copies, if it may stand for the copy too.
-fn copied(nets: &[Net], alone: &[bool], roots: &[u32], done: &[bool], k: u32) -> Option<u32>
+/// What stands for a net whose number a net passes on, if it may stand for that net too.
+fn shown(nets: &[Net], alone: &[bool], roots: &[u32], done: &[bool], k: u32) -> Option<u32>
     requires sizes { HasSizes (fold_of nets.now alone.now roots.now done.now) }
     requires inside { k < length nets.now }
     ensures { MatchOption result ⊤ (IsFound (fold_of nets.now alone.now roots.now done.now) k) }
 {
-    let NetKind::Comb {
-        op: NetOp::Resize,
-        args,
-    } = &nets[k as usize].kind
-    else {
+    let Some(read) = passed(nets, &nets[k as usize], roots) else {
         return None;
     };
-    let args = args.as_slice();
-    if args.len() != 1 {
-        return None;
-    }
-    let other = roots[args[0] as usize];
+    let other = root_of(read, roots);
     if can_stand(nets, alone, roots, done, k, other) {
-        Some(other)
-    } else {
-        None
-    }
-}
-
-/// The two nets that a net chooses between.
-fn arms_of(kind: &NetKind) -> Option<(u32, u32)>
-    ensures { MatchOption result ⊤ (λ arms. IsChoiceBetween kind.now arms.0 arms.1) }
-{
-    match kind {
-        NetKind::Comb {
-            op: NetOp::Choose,
-            args,
-        } => match args.as_slice() {
-            [_, one, second] => Some((*one, *second)),
-            _ => None,
-        },
-        _ => None,
-    }
-}
-
-/// What stands for both that a net chooses between, if it may stand for the choice too.
-fn chosen(nets: &[Net], alone: &[bool], roots: &[u32], done: &[bool], k: u32) -> Option<u32>
-    requires sizes { HasSizes (fold_of nets.now alone.now roots.now done.now) }
-    requires inside { k < length nets.now }
-    ensures { MatchOption result ⊤ (IsFound (fold_of nets.now alone.now roots.now done.now) k) }
-{
-    let Some((one, second)) = arms_of(&nets[k as usize].kind) else {
-        return None;
-    };
-    let other = roots[one as usize];
-    if roots[second as usize] == other && can_stand(nets, alone, roots, done, k, other) {
         Some(other)
     } else {
         None
@@ -140,10 +100,7 @@ fn found(
     ensures { IfOk result (λ other. MatchOption other ⊤
         (IsFound (fold_of nets.now alone.now roots.now done.now) k)) }
 {
-    if let Some(other) = copied(nets, alone, roots, done, k) {
-        return Ok(Some(other));
-    }
-    if let Some(other) = chosen(nets, alone, roots, done, k) {
+    if let Some(other) = shown(nets, alone, roots, done, k) {
         return Ok(Some(other));
     }
     let key = key_of(&nets[k as usize], roots);

@@ -1,7 +1,5 @@
 -- A netlist in which each net of another has one that shows the same stands in its place.
-use Rattle.std.proofs.Common.{◌≡◌, ◌⊎◌, inl, inr, ℕ, zero, suc, ◌<◌, Bool, true, false, not, if◌then◌else◌, List, [], ◌∷◌, map, Some, slice_get, refl, ap, sym, subst, arith, ℤ, pos}
-use Rattle.std.proofs.lemmas.Int.{ints}
-use Rattle.std.specs.Ordering.{int_eq}
+use Rattle.std.proofs.Common.{◌≡◌, ◌⊎◌, inl, inr, ℕ, zero, suc, ◌<◌, Bool, List, [], ◌∷◌, map, Some, slice_get, refl, ap, sym, subst}
 use Rattle.math_num.specs.Word.{InWord, IsWrapped}
 use Rattle.hw_net.specs.declared.netlist.Net.{Net}
 use Rattle.hw_net.specs.declared.netlist.NetPort.{NetPort}
@@ -14,7 +12,7 @@ use Rattle.hw_net.specs.Products.{Product, products_of}
 use Rattle.hw_net.specs.Registers.{Wave}
 use Rattle.hw_refine.specs.Redirects.{redirected}
 use Rattle.hw_refine.specs.Refines.{Agree, Reflects, Refines}
-use Rattle.hw_refine.specs.Represents.{IsChoice, IsCopy, Represents, RepresentsRefine}
+use Rattle.hw_refine.specs.Represents.{HoldsAtRoots, Represents, RepresentsRefine}
 use Rattle.math_list.proofs.Zips.{zip-length, zip-weaker}
 
 module _ (root : ℕ → ℕ) (rows : Rows) where
@@ -40,13 +38,6 @@ module _ (root : ℕ → ℕ) (rows : Rows) where
   shows-of cycles n inputs w s (Unit left right) wave h = h
   shows-of cycles n inputs w s (Counter frame) wave h = h
 
-own-wrapped : (v : ℤ) (w : ℕ) (s : Bool) → InWord w s v → IsWrapped v w s v
-own-wrapped v w s h = record { in_word = h; congruent = record { turns = pos 0; equal = omega (arith, ints) } }
-
-either : (b : Bool) (x y z : ℤ) → x ≡ z → y ≡ z → (if b then x else y) ≡ z
-either true x y z e f = e
-either false x y z e f = f
-
 module _ {old new : Circuit} {root : ℕ → ℕ} (r : Represents old new root) where
   module _ (n : ℕ) (inputs : Inputs) (rows : Rows) (are : NetRows new n inputs rows) where
     abbrev before : Rows
@@ -57,20 +48,6 @@ module _ {old new : Circuit} {root : ℕ → ℕ} (r : Represents old new root) 
         let x = r.nets k was at in
         let h = are.in_word (root k) x.is x.there c below in
         subst (λ (s : Bool). InWord was.width s (rows (root k) c)) x.sign (subst (λ (w : ℕ). InWord w x.is.signed (rows (root k) c)) x.wide h)
-
-    copied : (k : ℕ) (was : Net) → slice_get old.nets k ≡ Some was → IsCopy root k was.kind → NetShows old.cycles n inputs before was.width was.signed was.kind (before k)
-    copied k was at copy =
-        subst (λ (kind : NetKind). NetShows old.cycles n inputs before was.width was.signed kind (before k)) (sym copy.is)
-        (λ c below. subst (λ (j : ℕ). IsWrapped (rows j c) was.width was.signed (rows (root k) c)) (sym copy.same) (own-wrapped (rows (root k) c) was.width was.signed (word-of k was at c below)))
-
-    chosen : (k : ℕ) (was : Net) → slice_get old.nets k ≡ Some was → IsChoice root k was.kind → NetShows old.cycles n inputs before was.width was.signed was.kind (before k)
-    chosen k was at choice =
-        subst (λ (kind : NetKind). NetShows old.cycles n inputs before was.width was.signed kind (before k)) (sym choice.is)
-        (λ c below. subst (λ (v : ℤ). IsWrapped v was.width was.signed (rows (root k) c))
-        (sym (either (not (int_eq (rows (root choice.test) c) (pos 0))) (rows (root choice.one) c)
-        (rows (root choice.other) c) (rows (root k) c) (ap (λ (j : ℕ). rows j c) choice.one_same)
-        (ap (λ (j : ℕ). rows j c) choice.other_same)))
-        (own-wrapped (rows (root k) c) was.width was.signed (word-of k was at c below)))
 
     done : (k : ℕ) (was : Net) (at : slice_get old.nets k ≡ Some was)
         → (r.nets k was at).is.kind ≡ redirected root was.kind
@@ -86,12 +63,11 @@ module _ {old new : Circuit} {root : ℕ → ℕ} (r : Represents old new root) 
         e d)
 
     shows-at : (k : ℕ) (was : Net) (at : slice_get old.nets k ≡ Some was)
-        → ((r.nets k was at).is.kind ≡ redirected root was.kind)
-        ⊎ (IsCopy root k was.kind ⊎ IsChoice root k was.kind)
+        → ((r.nets k was at).is.kind ≡ redirected root was.kind) ⊎ HoldsAtRoots new root k was
         → NetShows old.cycles n inputs before was.width was.signed was.kind (before k)
     shows-at k was at (inl e) = done k was at e
-    shows-at k was at (inr (inl copy)) = copied k was at copy
-    shows-at k was at (inr (inr choice)) = chosen k was at choice
+    shows-at k was at (inr holds) =
+        subst (λ (cycles : ℕ). NetShows cycles n inputs before was.width was.signed was.kind (before k)) r.cycles (holds n inputs rows are)
 
     reflects : Reflects old new root n inputs rows
     reflects = record {

@@ -1,10 +1,13 @@
 -- Which net stands for each.
-use Rattle.std.specs.Prelude.{◌≡◌, ℕ, ◌<◌, ◌≤◌, ◌⊎◌, Bool, true, false, List, [], ◌∷◌, length, All}
+use Rattle.std.specs.Prelude.{◌≡◌, ℕ, ℤ, ◌<◌, ◌≤◌, ◌⊎◌, Bool, true, false, List, length, All}
+use Rattle.math_num.specs.Word.{InWord, IsWord, IsWrapped}
 use Rattle.hw_net.specs.declared.netlist.Net.{Net}
-use Rattle.hw_net.specs.declared.netlist.NetKind.{NetKind}
 use Rattle.hw_net.specs.declared.netlist.NetKind.TheVariants.{Comb}
-use Rattle.hw_net.specs.declared.netlist.NetOp.TheVariants.{Choose, Resize}
+use Rattle.hw_net.specs.declared.netlist.NetOp.{NetOp}
+use Rattle.hw_net.specs.declared.netlist.NetOp.TheVariants.{Const}
 use Rattle.hw_net.specs.Netlist.{reads}
+use Rattle.hw_net.specs.NetRows.{operands_at}
+use Rattle.hw_net.specs.Operation.{arity, given_by}
 use Rattle.hw_net.specs.Products.{net_at}
 use Rattle.hw_refine.specs.Redirects.{redirected}
 use Rattle.hw_renumber.specs.Renumbered.{place_in}
@@ -36,32 +39,31 @@ pub record IsRoot (fold : Fold) (k other : ℕ) : Type 0 where
   pub wide : (net_at fold.nets other).width ≡ (net_at fold.nets k).width
   pub sign : (net_at fold.nets other).signed ≡ (net_at fold.nets k).signed
 
--- the net resizes one that the other stands for
-pub record IsCopyOf (root : ℕ → ℕ) (kind : NetKind) (other : ℕ) : Type 0 where
-  pub read : ℕ
-  pub is : kind ≡ Comb Resize (read ∷ [])
-  pub same : root read ≡ other
+-- numbers that the nets can show: those of their words, and of a constant that constant
+pub record CanShow (nets : List Net) (shown : ℕ → ℤ) : Type 0 where
+  pub words : (j : ℕ) → j < length nets → IsWord (net_at nets j).width (net_at nets j).signed
+  pub in_word : (j : ℕ) → j < length nets
+      → InWord (net_at nets j).width (net_at nets j).signed (shown j)
+  pub constants : (j : ℕ) (value : ℤ) (args : List ℕ) → j < length nets
+      → (net_at nets j).kind ≡ Comb (Const value) args
+      → IsWrapped value (net_at nets j).width (net_at nets j).signed (shown j)
 
--- the net chooses between these two
-pub record IsChoiceBetween (kind : NetKind) (one second : ℕ) : Type 0 where
-  pub test : ℕ
-  pub is : kind ≡ Comb Choose (test ∷ one ∷ second ∷ [])
+-- whatever the nets show, the operation gives what the other shows, on what stands for what it
+-- reads
+pub record IsPassed (nets : List Net) (root : ℕ → ℕ) (k other : ℕ) : Type 0 where
+  pub op : NetOp
+  pub args : List ℕ
+  pub is : (net_at nets k).kind ≡ Comb op args
+  pub reads : 0 < arity op
+  pub gives : (inputs shown : ℕ → ℤ) → CanShow nets shown
+      → IsWrapped (given_by op inputs (operands_at (λ j. shown (root j)) args))
+      (net_at nets k).width (net_at nets k).signed (shown other)
 
--- the net chooses between two that the other stands for
-pub record IsChoiceOf (root : ℕ → ℕ) (kind : NetKind) (other : ℕ) : Type 0 where
-  pub test : ℕ
-  pub one : ℕ
-  pub second : ℕ
-  pub is : kind ≡ Comb Choose (test ∷ one ∷ second ∷ [])
-  pub one_same : root one ≡ other
-  pub second_same : root second ≡ other
-
--- on what stands for what they read, both do the same; or the net is a copy, or a choice between
--- two that are one
+-- on what stands for what they read, both do the same; or the net passes on what the other shows
 abbrev pub DoesSame : List Net → (ℕ → ℕ) → ℕ → ℕ → Type 0
 DoesSame nets root k other =
     (redirected root (net_at nets other).kind ≡ redirected root (net_at nets k).kind)
-    ⊎ (IsCopyOf root (net_at nets k).kind other ⊎ IsChoiceOf root (net_at nets k).kind other)
+    ⊎ IsPassed nets root k other
 
 pub record IsFound (fold : Fold) (k other : ℕ) : Type 0 where
   pub root : IsRoot fold k other
