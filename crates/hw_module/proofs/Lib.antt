@@ -1,6 +1,7 @@
 pub mod Carries
 pub mod Emission
 pub mod Lists
+pub mod LoneProducts
 pub mod MultiplicationNames
 pub mod NetCounts
 pub mod Offers

@@ -5,11 +5,13 @@ use Rattle.dg_model.specs.declared.resolved.Resolved.{Resolved}
 use Rattle.dg_model.specs.Attributes.{attributes_of}
 use Rattle.dg_model.specs.Laws.{StimulusGivesColumns, InputsAreListed, OutputsAreListed}
 use Rattle.dg_model.specs.RootElements.{RootElement}
+use Rattle.vl_ast.specs.Drivers.{OneDriver}
 use Rattle.hw_sched.specs.Laws.{MovingHavePeriods, OperationsAreServed, OperationsHavePeriods, SlotsDiffer, ReadyFits}
 use Rattle.hw_sched.specs.Scheduled.{IsScheduled}
 use Rattle.hw_sched.specs.Slots.{Timing}
 use Rattle.hw_module.specs.Laws.{BuiltModulesAreOf, RefinedModulesAreOf}
 use Rattle.hw_module.proofs.Carries.{InputsHavePeriods, carries}
+use Rattle.hw_module.proofs.LoneProducts.{multiplies-alone}
 use Rattle.hw_module.proofs.MultiplicationNames.{names-multiplications}
 use Rattle.hw_module.proofs.Offers.{offers}
 use Rattle.hw_module.proofs.Refinement.{multiplied-still, offers-still}
@@ -25,7 +27,7 @@ inputs-have-periods listed moving {diagram} scheduled place e is =
 
 module _ (columns : StimulusGivesColumns) (listed : InputsAreListed) (outputs : OutputsAreListed)
     (moving : MovingHavePeriods) (served : OperationsAreServed) (have_periods : OperationsHavePeriods)
-    (differ : SlotsDiffer) (fits : ReadyFits) where
+    (differ : SlotsDiffer) (fits : ReadyFits) (one_driver : OneDriver) where
   pub built-modules : BuiltModulesAreOf
   built-modules netlist diagram plan timing m scheduled built made =
       let periods = inputs-have-periods listed moving scheduled in
@@ -35,6 +37,7 @@ module _ (columns : StimulusGivesColumns) (listed : InputsAreListed) (outputs : 
         serves = serves offered made served have_periods differ fits columns periods scheduled;
         owed = owed offered made;
         named = names-multiplications built.multiplied made;
+        alone = multiplies-alone one_driver built.multiplied made (names-multiplications built.multiplied made);
         pipelined = pipelined offered made columns periods;
         few = few-registers offered made;
       }
@@ -43,12 +46,14 @@ module _ (columns : StimulusGivesColumns) (listed : InputsAreListed) (outputs : 
   pub refined-modules : RefinedModulesAreOf
   refined-modules netlist diagram plan timing m scheduled refined made =
       let periods = inputs-have-periods listed moving scheduled in
+      let multiplied = multiplied-still refined.runs refined.emittable refined.refines refined.is_built.multiplied in
       let offered = offers-still refined.runs refined.emittable refined.refines (offers outputs moving have_periods scheduled periods refined.is_built) in
       record {
         carries = carries offered made columns periods refined.is_built.ports.names;
         serves = serves offered made served have_periods differ fits columns periods scheduled;
         owed = owed offered made;
-        named = names-multiplications (multiplied-still refined.runs refined.emittable refined.refines refined.is_built.multiplied) made;
+        named = names-multiplications multiplied made;
+        alone = multiplies-alone one_driver multiplied made (names-multiplications multiplied made);
         pipelined = pipelined offered made columns periods;
         few = few-registers offered made;
       }

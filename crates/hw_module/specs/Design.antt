@@ -3,7 +3,7 @@ use Rattle.dg_model.specs.declared.diagram.Diagram.{Diagram}
 use Rattle.dg_model.specs.declared.resolved.Resolved.{Resolved}
 use Rattle.vl_ast.specs.declared.modules.Module.{Module}
 use Rattle.hw_module.specs.Carries.{Carries}
-use Rattle.hw_module.specs.Serves.{NamesMultiplications, Serves, MultipliesAsOwed}
+use Rattle.hw_module.specs.Serves.{MultipliesAlone, MultipliesAsOwed, NamesMultiplications, Serves}
 use Rattle.hw_module.specs.Pipelined.{Pipelined, HasFewRegisters}
 use Rattle.hw_sched.specs.Slots.{Timing}
 
@@ -13,5 +13,6 @@ pub record IsModuleOf (m : Module) (diagram : Diagram) (plan : Resolved)
   pub serves : Serves m diagram plan timing
   pub owed : MultipliesAsOwed m diagram plan timing
   pub named : NamesMultiplications m diagram plan
+  pub alone : MultipliesAlone m diagram plan
   pub pipelined : Pipelined m diagram plan timing
   pub few : HasFewRegisters m diagram plan timing

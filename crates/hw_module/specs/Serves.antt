@@ -1,14 +1,17 @@
 -- Which operation each shared multiplier of a module serves in which clock, and how many
 -- multiplications there are (own; HDL Coder, resource sharing).
-use Rattle.std.specs.Prelude.{◌≡◌, ℕ, ◌<◌, ℤ, length, Some, slice_get, true, false}
+use Rattle.std.specs.Prelude.{◌≡◌, ℕ, ◌<◌, ℤ, length, Contains, Some, slice_get, true, false}
 use Rattle.dg_model.specs.declared.diagram.Diagram.{Diagram}
 use Rattle.dg_model.specs.declared.diagram.Block.{Block}
 use Rattle.dg_model.specs.declared.resolved.Resolved.{Resolved}
 use Rattle.dg_model.specs.Attributes.{attributes_of}
 use Rattle.dg_model.specs.Hits.{Hits}
 use Rattle.dg_model.specs.Signals.{Stimulus, Table}
+use Rattle.vl_ast.specs.declared.modules.ModItem.{ModItem}
 use Rattle.vl_ast.specs.declared.modules.Module.{Module}
-use Rattle.vl_ast.specs.Multiplications.{Multiplication, multiplications}
+use Rattle.vl_ast.specs.Conditions.{item_name}
+use Rattle.vl_ast.specs.Drivers.{declares}
+use Rattle.vl_ast.specs.Multiplications.{Multiplication, item_multiplications, multiplications}
 use Rattle.vl_ast.specs.Nets.{nets_of}
 use Rattle.vl_ast.specs.Runs.{Row, Rows}
 use Rattle.vl_ast.specs.Value.{value_in, bits_of}
@@ -78,3 +81,13 @@ NamesMultiplications m diagram plan =
     → element < (attributes_of diagram).width_at block 1
     → IsWire m (multiplication_name block element)
     × IsMultiplied m (multiplication_name block element)
+
+-- the item that drives it holds one multiplication
+abbrev pub MultipliesAlone : Module → Diagram → Resolved → Type 0
+MultipliesAlone m diagram plan =
+    (block element : ℕ) → block < length diagram.blocks → multiplies diagram block ≡ true
+    → is_shared diagram (attributes_of diagram) plan block ≡ false
+    → element < (attributes_of diagram).width_at block 1
+    → (i : ModItem) → Contains m.items i → declares i ≡ false
+    → item_name i ≡ multiplication_name block element
+    → length (item_multiplications (nets_of m) i) ≡ 1

@@ -11,6 +11,7 @@ pub fn built_modules_owe_nothing()
     hw_sched::operations_are_served();
     hw_sched::slots_differ();
     hw_sched::ready_fits();
+    vl_ast::one_driver();
 }
 
 /// The same of a netlist that stands in the place of one that is built.
@@ -23,4 +24,5 @@ pub fn refined_modules_owe_nothing()
     hw_sched::operations_are_served();
     hw_sched::slots_differ();
     hw_sched::ready_fits();
+    vl_ast::one_driver();
 }

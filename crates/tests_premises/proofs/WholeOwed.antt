@@ -54,7 +54,11 @@ named : (m : Module) → IsModuleOf m diagram plain plain_timing → (element : 
 named m owed element below = owed.named 1 element (lit< tt) refl unshared (inside element below)
 
 owes_plain : (m : Module) → IsModuleOf m diagram plain plain_timing → OwesPlain m
-owes_plain m owed = record { wires = λ element below. (named m owed element below).0; products = λ element below. (named m owed element below).1 }
+owes_plain m owed = record {
+  wires = λ element below. (named m owed element below).0;
+  products = λ element below. (named m owed element below).1;
+  alone = λ element below. owed.alone 1 element (lit< tt) refl unshared (inside element below);
+}
 
 pub whole_modules_owe : WholeModulesOwe
 whole_modules_owe = record { once = owes_once; two = owes_twice; unshared = owes_plain }

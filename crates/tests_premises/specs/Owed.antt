@@ -1,14 +1,19 @@
 -- What modules of the whole model's diagram owe by three plans, worked out in numbers and names, and
 -- a plan of which no module is owed (own).
-use Rattle.std.specs.Prelude.{◌≡◌, ℕ, ◌<◌, ◌≤◌, List, [], ◌∷◌, false, length, codes}
+use Rattle.std.specs.Prelude.{◌≡◌, ℕ, ◌<◌, ◌≤◌, List, [], ◌∷◌, false, length, Contains, codes}
 use Rattle.dg_model.specs.declared.resolved.Resolved.{Resolved}
 use Rattle.hw_build.specs.Multiplied.{multiplication_name}
 use Rattle.hw_build.specs.Pipelined.{stage_name}
 use Rattle.hw_module.specs.Design.{IsModuleOf}
 use Rattle.hw_sched.specs.Slots.{Timing}
+use Rattle.vl_ast.specs.declared.modules.ModItem.{ModItem}
 use Rattle.vl_ast.specs.declared.modules.Module.{Module}
+use Rattle.vl_ast.specs.Conditions.{item_name}
 use Rattle.vl_ast.specs.Driven.{IsResetLast}
+use Rattle.vl_ast.specs.Drivers.{declares}
 use Rattle.vl_ast.specs.Items.{IsReadByAlone, IsRegisterOf, IsWire, registers}
+use Rattle.vl_ast.specs.Multiplications.{item_multiplications}
+use Rattle.vl_ast.specs.Nets.{nets_of}
 use Rattle.vl_ast.specs.Runs.{Row, Rows, Runs}
 use Rattle.vl_ast.specs.Stalls.{AreThinned}
 use Rattle.vl_ast.specs.Windows.{Window}
@@ -62,10 +67,13 @@ abbrev pub plain_timing : Timing
 plain_timing =
     record { lat = 0 ∷ 0 ∷ 0 ∷ []; fed = false ∷ false ∷ false ∷ []; depths = 0 ∷ 0 ∷ 0 ∷ [] }
 
--- each element has a wire that is assigned a product
+-- each element has a wire that is assigned a product, by an item that holds no other
 pub record OwesPlain (m : Module) : Type 0 where
   pub wires : (element : ℕ) → element < 2 → IsWire m (multiplication_name 1 element)
   pub products : (element : ℕ) → element < 2 → IsMultiplied m (multiplication_name 1 element)
+  pub alone : (element : ℕ) → element < 2 → (i : ModItem) → Contains m.items i → declares i ≡ false
+      → item_name i ≡ multiplication_name 1 element
+      → length (item_multiplications (nets_of m) i) ≡ 1
 
 -- ---- each module that is owed by these plans does so
 pub record WholeModulesOwe : Type 0 where
