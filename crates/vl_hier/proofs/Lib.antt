@@ -1,5 +1,7 @@
 mod DeclarationTests
+mod DesignLayouts
 mod Filters
+mod InstanceLayouts
 mod LeastName
 mod LinkTests
 mod LookUps
@@ -7,3 +9,4 @@ mod NamePlaces
 mod NetKeys
 mod Refusals
 mod TableTests
+mod WrittenParts

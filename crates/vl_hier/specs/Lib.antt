@@ -1,4 +1,5 @@
 pub mod Fault
 pub mod Flat
 pub mod Linked
+pub mod Written
 pub mod inner

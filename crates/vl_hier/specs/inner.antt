@@ -4,3 +4,4 @@ pub mod Nets
 pub mod Tables
 pub mod Tests
 pub mod Puts
+pub mod Written
