@@ -1,5 +1,5 @@
 -- A text that a file can hold has few items, since each takes six bytes at least.
-use Rattle.std.proofs.Common.{◌≡◌, ℕ, ◌+◌, ◌*◌, ◌≤◌, List, [], ◌∷◌, ◌++◌, length, map, refl, subst, ap, codes, arith, length-append}
+use Rattle.std.proofs.Common.{ℕ, ◌+◌, ◌*◌, ◌≤◌, List, [], ◌∷◌, ◌++◌, length, map, subst, codes, arith, length-append}
 use Rattle.std.specs.List.{flat_map}
 use Rattle.laws_commands.specs.Laws.{BadSimulatedIsReplayedOfFiles, HeldModulesAreRead, SimulatedIsReplayedOfFiles, SimulationsAreReplaysOfFiles}
 use Rattle.laws_commands.specs.inner.LawsBelow.{AreKnown}

@@ -2,8 +2,12 @@ pub mod Columns
 pub mod Held
 pub mod Numbers
 pub mod Orders
+pub mod PlainBytes
 pub mod Ready
 pub mod Replays
+pub mod SampleEquals
+pub mod SampleFields
+pub mod SampleRows
 pub mod Samples
 pub mod Schedules
 pub mod Stimuli

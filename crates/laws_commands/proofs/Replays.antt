@@ -177,7 +177,7 @@ module _ (known : AreKnown) {model plan verilog : List ℕ} (generated : IsVeril
 
   -- ---- their stimuli
 
-  is-accepted : IsAccepted model
+  pub is-accepted : IsAccepted model
   is-accepted = record {
     tree = generated.design.accepted.tree;
     stands = generated.design.accepted.stands;

@@ -1,5 +1,9 @@
+use Rattle.laws_commands.proofs.SampleEquals.{samples-are-equal}
 use Rattle.laws_commands.proofs.Samples.{samples-agree}
 use Rattle.laws_commands.proofs.laws.samples_agree.Goals as goal
 
-pub returns : goal.returns
-returns c = samples-agree c.all_are_known.ensures
+pub returns-clause-agree : goal.returns-clause-agree
+returns-clause-agree c = samples-agree c.all_are_known.ensures
+
+pub returns-clause-equal : goal.returns-clause-equal
+returns-clause-equal c = samples-are-equal c.all_are_known.ensures
