@@ -1,5 +1,5 @@
 -- The text of a check of the whole model is the one that was worked out by hand.
-use Rattle.std.proofs.Common.{◌≡◌, ◌≢◌, ℕ, zero, suc, ◌<◌, List, [], ◌∷◌, Some, None, slice_get, length, map, drop, codes, refl, sym, ap, subst, ◌∙◌, arith}
+use Rattle.std.proofs.Common.{◌≡◌, ◌≢◌, ℕ, zero, suc, ◌<◌, List, [], ◌∷◌, Some, None, slice_get, length, map, drop, codes, refl, sym, ap, subst, ◌∙◌, arith, ◌+◌, true, false, true≢false}
 use Rattle.std.specs.Prelude.{slice_index_or}
 use Rattle.std.specs.Fmt.{digits}
 use Rattle.std.proofs.Math.Dec.{lit<}
@@ -10,11 +10,11 @@ use Rattle.dg_model.specs.Attributes.{attributes_of}
 use Rattle.dg_model.specs.RootElements.{root_inputs, root_outputs}
 use Rattle.dg_model.specs.Signals.{Attributes}
 use Rattle.hw_arcs.specs.declared.arc.Arc.{Arc}
-use Rattle.hw_arcs.specs.Latencies.{latency_at}
+use Rattle.hw_arcs.specs.Latencies.{IsTightArc, latency_at}
 use Rattle.hw_latency.specs.Weight.{arcs_with, latency_arcs}
 use Rattle.math_list.proofs.ByRecursion.{pairs_of}
 use Rattle.hw_names.specs.Names.{AreNames}
-use Rattle.tests_premises.specs.Told.{ChecksTell, round, whole_check}
+use Rattle.tests_premises.specs.Told.{ChecksTell, asking, loose, round, silent, whole_check}
 use Rattle.tests_premises.specs.Whole.{arc, arcs, diagram, resolved, timing, whole_names}
 use Rattle.tests_premises.proofs.WholeNames.{names_are, whole_are_names}
 use Rattle.tests_premises.proofs.WholePlan.{arcs_are}
@@ -73,6 +73,39 @@ not-again way = way.different 1 3 0 (lit< tt) (lit< tt) refl
 
 not-unknown : ¬ IsTightPath arcs timing.lat 3 (3 ∷ [])
 not-unknown way = let below = way.there 0 3 refl in absurd (omega (arith, below))
+
+abbrev both : List ℕ
+both = 0 ∷ 1 ∷ []
+
+-- it ends where the path ends
+not-past : ¬ IsTightPath asking (0 ∷ 1 ∷ []) 0 (0 ∷ 1 ∷ [])
+not-past way = by_last way.last way.ends (way.whole 1 1 refl)
+  where
+    by_last : (last : ℕ) → slice_get both last ≡ Some 0 → 1 < suc last → ⊥
+    by_last zero ends within = omega (arith, within)
+    by_last (suc zero) ends within = let same : 1 ≡ 0 = same_Some 1 0 ends in omega (arith, same)
+    by_last (suc (suc last)) ends within = none-some 0 ends
+
+-- over a lone arc
+not-by : (a : Arc) → (IsTightArc (a ∷ []) (0 ∷ 1 ∷ []) 1 0 → ⊥) → ¬ IsTightPath (a ∷ []) (0 ∷ 1 ∷ []) 1 (0 ∷ 1 ∷ [])
+not-by a never way = by_number (way.leads 0 0 1 refl refl).1.number (way.leads 0 0 1 refl refl).1.tight
+  where
+    by_number : (number : ℕ) → IsTightArc (a ∷ []) (0 ∷ 1 ∷ []) 1 number → ⊥
+    by_number zero tight = never tight
+    by_number (suc number) tight = none-some tight.arc tight.at
+
+not-spare : ¬ IsTightPath loose (0 ∷ 1 ∷ []) 1 (0 ∷ 1 ∷ [])
+not-spare = not-by (arc 0 1 0) (λ tight.
+    let equal : 0 + 0 ≡ 1 + 0 = subst (λ (a : Arc). latency_at (0 ∷ 1 ∷ []) a.from + a.gain ≡ 1 + a.slack) (sym (same_Some (arc 0 1 0) tight.arc tight.at)) tight.equal in
+    omega (arith, equal))
+
+abbrev mute : Arc
+mute = record (arc 0 1 1) { counts = false }
+
+not-uncounted : ¬ IsTightPath silent (0 ∷ 1 ∷ []) 1 (0 ∷ 1 ∷ [])
+not-uncounted = not-by mute (λ tight.
+    let counts : false ≡ true = subst (λ (a : Arc). a.counts ≡ true) (sym (same_Some mute tight.arc tight.at)) tight.counts in
+    true≢false (sym counts))
 
 -- ---- the outputs
 abbrev output_of : List ℕ → Output
@@ -189,4 +222,7 @@ checks-tell = record {
   long = longer (1 ∷ 2 ∷ 2 ∷ []) 2 refl;
   again = not-again;
   unknown = not-unknown;
+  past = not-past;
+  spare = not-spare;
+  uncounted = not-uncounted;
 }

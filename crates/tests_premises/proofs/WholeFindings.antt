@@ -2,7 +2,7 @@
 use Rattle.std.proofs.Common.{◌≡◌, inl, inr, ⊎_elim, ℕ, zero, suc, ◌≤◌, ◌<◌, List, [], ◌∷◌, length, Some, None, slice_get, codes, refl, sym, ap, subst, ◌∙◌, arith}
 use Rattle.std.specs.Prelude.{Option}
 use Rattle.std.specs.Fmt.{digits}
-use Rattle.std.proofs.Math.Dec.{lit≤}
+use Rattle.std.proofs.Math.Dec.{lit≤, lit<}
 use Rattle.std.proofs.lemmas.Option.{none-some, same_Some}
 use Rattle.cmd_explore.specs.FindingsText.{findings_text, finding_line, named}
 use Rattle.dg_model.specs.declared.fault.RuleFault.{RuleFault}
@@ -29,7 +29,7 @@ use Rattle.hw_sched.specs.Ready.{owed}
 use Rattle.hw_sched.specs.Scheduled.{IsTimingOf}
 use Rattle.hw_sched.specs.Slots.{Timing, have_of, need_of}
 use Rattle.hw_sched.specs.Storage.{greatest_latency, storage}
-use Rattle.tests_premises.specs.Explored.{ExploresWhole, enough, range, too_few, whole_exploration, whole_findings}
+use Rattle.tests_premises.specs.Explored.{ExploresWhole, enough, good, range, too_few, whole_exploration, whole_findings}
 use Rattle.tests_premises.specs.Whole.{diagram}
 use Rattle.tests_premises.proofs.WholeRules.{attributes, attributes_known}
 use Rattle.tests_premises.proofs.WholeTimes.{at_once, in_clocks, only_times, three_alike, timed, two_alike}
@@ -157,6 +157,22 @@ least_three = record {
         not_above better (sym (worth better ranked.good).0) ranked.cycles (sym (worth better ranked.good).1) ranked.multipliers above
     none_better (suc (suc k)) other better at is above = none-some other at
 
+-- of two good plans the first isn't least where the second is better
+abbrev rank_of : ℕ → ℕ → ℕ → ℕ → Rank
+rank_of multiplications cycles latency multipliers = record { multiplications = multiplications; cycles = cycles; latency = latency; multipliers = multipliers }
+
+not_first : (m c l k n d e j : ℕ) → IsBetter (rank_of n d e j) (rank_of m c l k) → ¬ IsLeast (good m c l k ∷ good n d e j ∷ []) (Some 0)
+not_first m c l k n d e j better at =
+    let ranked : IsRanked (good m c l k) at.rank = subst (λ (f : Finding). IsRanked f at.rank) (sym (same_Some (good m c l k) at.finding at.there)) at.ranked in
+    let own : m ≡ at.rank.multiplications = ap owed_in ranked.good in
+    let late : l ≡ at.rank.latency = ap latency_in ranked.good in
+    let same : rank_of m c l k ≡ at.rank =
+    ap (λ (x : ℕ). rank_of x c l k) own
+    ∙ ap (λ (x : ℕ). rank_of at.rank.multiplications x l k) (sym ranked.cycles)
+    ∙ ap (λ (x : ℕ). rank_of at.rank.multiplications at.rank.cycles x k) late
+    ∙ ap (λ (x : ℕ). rank_of at.rank.multiplications at.rank.cycles at.rank.latency x) (sym ranked.multipliers) in
+    at.least 1 (good n d e j) (rank_of n d e j) refl (record { good = refl; cycles = refl; multipliers = refl }) (subst (IsBetter (rank_of n d e j)) same better)
+
 found : AreFindings diagram range whole_findings
 found = record { size = refl; each = each_found; least = least_three }
   where
@@ -277,4 +293,12 @@ module _ (one_fed : FedIsOne) (one_lat : LatenciesAreOne) (one_depth : DepthsAre
   written = refl
 
   pub explores_whole : ExploresWhole
-  explores_whole = record { found = found; only = only; written = written }
+  explores_whole = record {
+    found = found;
+    only = only;
+    written = written;
+    multiplications = not_first 2 1 0 0 1 9 9 9 (inl (lit< tt));
+    clocks = not_first 1 3 0 0 1 2 9 9 (inr (refl, inl (lit< tt)));
+    latency = not_first 1 2 3 0 1 2 2 9 (inr (refl, inr (refl, inl (lit< tt))));
+    multipliers = not_first 1 2 2 3 1 2 2 2 (inr (refl, inr (refl, inr (refl, lit< tt))));
+  }

@@ -90,6 +90,7 @@ module _ (m : Module) (stream : IsStreamOf m diagram resolved timing) where
   streams = record {
     one = stream.multiplies ∙ shared.multiplications;
     name = header.name;
+    row = header.attrs;
     ports = ports;
     shakes = shakes_whole;
     hands_over = hands_over;

@@ -7,7 +7,7 @@ use Rattle.hw_explore.specs.declared.finding.Finding.{Finding}
 use Rattle.hw_explore.specs.declared.finding.Judged.TheVariants.{Bad, Good}
 use Rattle.hw_explore.specs.declared.findings.Findings.{Findings}
 use Rattle.hw_explore.specs.declared.range.Range.{Range}
-use Rattle.hw_explore.specs.Findings.{AreFindings}
+use Rattle.hw_explore.specs.Findings.{AreFindings, IsLeast}
 use Rattle.tests_premises.specs.Whole.{diagram}
 
 -- two plans
@@ -34,9 +34,23 @@ whole_exploration =
     ++ codes "cycles 3 multipliers 1 multiplications 1 latency 2\n"
     ++ codes "least cycles 3 multipliers 1\n"
 
--- this is found and nothing else
+-- a good plan of these multiplications, clocks, latency and multipliers
+abbrev pub good : ℕ → ℕ → ℕ → ℕ → Finding
+good multiplications cycles latency multipliers =
+    record {
+      cycles = cycles;
+      multipliers = multipliers;
+      verdict = Good multiplications latency;
+    }
+
+-- this is found and nothing else; of two good plans none is least that has more multiplications, or
+-- as many in more clocks, or later, or by more multipliers
 pub record ExploresWhole : Type 0 where
   pub found : AreFindings diagram range whole_findings
   pub only : (findings : Findings) → AreFindings diagram range findings → findings ≡ whole_findings
   pub written : findings_text (codes "u" ∷ codes "G" ∷ codes "y" ∷ []) whole_findings
       ≡ whole_exploration
+  pub multiplications : ¬ IsLeast (good 2 1 0 0 ∷ good 1 9 9 9 ∷ []) (Some 0)
+  pub clocks : ¬ IsLeast (good 1 3 0 0 ∷ good 1 2 9 9 ∷ []) (Some 0)
+  pub latency : ¬ IsLeast (good 1 2 3 0 ∷ good 1 2 2 9 ∷ []) (Some 0)
+  pub multipliers : ¬ IsLeast (good 1 2 2 3 ∷ good 1 2 2 2 ∷ []) (Some 0)

@@ -11,7 +11,7 @@ use Rattle.vl_ast.specs.declared.modules.Module.{Module}
 use Rattle.vl_ast.specs.declared.modules.Port.{Port}
 use Rattle.vl_ast.specs.Conditions.{BreaksNone}
 use Rattle.vl_ast.specs.Driven.{IsResetLast}
-use Rattle.vl_ast.specs.Header.{bit_input, input_port, output_port}
+use Rattle.vl_ast.specs.Header.{attribute_of, bit_input, input_port, output_port}
 use Rattle.vl_ast.specs.Multiplications.{multiplications}
 use Rattle.vl_ast.specs.Runs.{Row, Rows, Runs}
 use Rattle.vl_ast.specs.Value.{bits_of}
@@ -76,11 +76,12 @@ pub record HandsOver (rows : Rows) (row number : ℕ) : Type 0 where
   pub first : rows row (codes "y_0") ≡ bits_of 16 (triples number)
   pub second : rows row (codes "y_1") ≡ bits_of 16 (fives number)
 
--- one multiplication, these ports, that pace, and the numbers of the table at the transfers out,
--- where the three samples were taken in
+-- one multiplication, these ports, a row for a sample, that pace, and the numbers of the table at
+-- the transfers out, where the three samples were taken in
 pub record StreamsWhole (m : Module) : Type 0 where
   pub one : length (multiplications m) ≡ 1
   pub name : m.name ≡ codes "fx_stream"
+  pub row : m.attrs ≡ attribute_of (codes "fx_cycles") 1 ∷ []
   pub ports : m.ports ≡ stream_ports
   pub shakes : (window : Window) (start : Row) (inputs rows : Rows) → IsResetLast window inputs
       → Runs m window.rows start inputs rows → ShakesWhole window rows

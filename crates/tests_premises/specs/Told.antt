@@ -1,6 +1,6 @@
 -- What a check tells of the whole model by its plan, line by line, and ways that are one item wrong
 -- (own).
-use Rattle.std.specs.Prelude.{◌≡◌, ℕ, List, [], ◌∷◌, ◌++◌, codes}
+use Rattle.std.specs.Prelude.{◌≡◌, ℕ, List, [], ◌∷◌, ◌++◌, false, codes}
 use Rattle.cmd_check.specs.CheckText.{IsCheckText}
 use Rattle.cmd_check.specs.Paths.{IsTightPath}
 use Rattle.hw_arcs.specs.declared.arc.Arc.{Arc}
@@ -21,9 +21,21 @@ whole_check =
 abbrev pub round : List Arc
 round = arc 0 1 1 ∷ arc 1 2 0 ∷ arc 2 1 0 ∷ []
 
+-- one arc, by which the second block may be as late as the first
+abbrev pub loose : List Arc
+loose = arc 0 1 0 ∷ []
+
+-- one by which it is to be later by one
+abbrev pub asking : List Arc
+asking = arc 0 1 1 ∷ []
+
+-- one that asks nothing
+abbrev pub silent : List Arc
+silent = record (arc 0 1 1) { counts = false } ∷ []
+
 -- a check tells this text and no other. No way to the output begins before the Gain, at a block that
--- is late or at none; none leaves out the Gain's arc, ends before the output, or goes round; and none
--- goes over a block without a latency
+-- is late or at none; none leaves out the Gain's arc, ends before the output or behind it, or goes round; none goes over
+-- an arc that has something to spare, over one that doesn't count, or over a block without a latency
 pub record ChecksTell : Type 0 where
   pub told : IsCheckText diagram resolved timing whole_check
   pub only : (text : List ℕ) → IsCheckText diagram resolved timing text → text ≡ whole_check
@@ -35,3 +47,6 @@ pub record ChecksTell : Type 0 where
   pub long : ¬ IsTightPath arcs timing.lat 2 (1 ∷ 2 ∷ 2 ∷ [])
   pub again : ¬ IsTightPath round (0 ∷ 1 ∷ 1 ∷ []) 2 (0 ∷ 1 ∷ 2 ∷ 1 ∷ 2 ∷ [])
   pub unknown : ¬ IsTightPath arcs timing.lat 3 (3 ∷ [])
+  pub past : ¬ IsTightPath asking (0 ∷ 1 ∷ []) 0 (0 ∷ 1 ∷ [])
+  pub spare : ¬ IsTightPath loose (0 ∷ 1 ∷ []) 1 (0 ∷ 1 ∷ [])
+  pub uncounted : ¬ IsTightPath silent (0 ∷ 1 ∷ []) 1 (0 ∷ 1 ∷ [])
