@@ -1,4 +1,5 @@
 pub mod Columns
+pub mod FirstSample
 pub mod Held
 pub mod Numbers
 pub mod Orders

@@ -30,7 +30,8 @@ grows-onto zero n acc = omega arith
 grows-onto (suc k) n acc =
     elim (n / 10 == 0) as (λ ends. length acc ≤ length (cond ends (digit_glyph false (n % 10) ∷ acc) (digits_onto k 10 false (n / 10) (digit_glyph false (n % 10) ∷ acc)))) [
       | true ↦ omega arith
-      | false ↦ (let more : suc (length acc) ≤ length (digits_onto k 10 false (n / 10) (digit_glyph false (n % 10) ∷ acc)) = grows-onto k (n / 10) (digit_glyph false (n % 10) ∷ acc) in omega (arith, more))
+      | false ↦ (let more : suc (length acc) ≤ length (digits_onto k 10 false (n / 10) (digit_glyph false (n % 10) ∷ acc)) =
+          grows-onto k (n / 10) (digit_glyph false (n % 10) ∷ acc) in omega (arith, more))
     ]
 
 some-onto : (k n : ℕ) → 0 < length (digits_onto (suc k) 10 false n [])

@@ -28,7 +28,8 @@ mapped-length : {A B : Type 0} (f : A → B) (xs : List A) → length (map f xs)
 mapped-length f [] = refl
 mapped-length f (x ∷ xs) = ap suc (mapped-length f xs)
 
-module _ (known : AreKnown) (count : ℕ) (told text : List ℕ) (summary : IsSummaryOf IsTold count told text) (few : length summary.own.items ≤ most_items) (columns : HasSampleColumns summary.diagram) where
+module _ (known : AreKnown) (count : ℕ) (told text : List ℕ) (summary : IsSummaryOf IsTold count told text) (few : length summary.own.items ≤ most_items)
+    (columns : HasSampleColumns summary.diagram) where
   abbrev generated : IsVerilogOf (sample_model count) sample_plan (spelling summary.own)
   generated = record {
     diagram = summary.diagram;
@@ -68,7 +69,8 @@ module _ (known : AreKnown) (count : ℕ) (told text : List ℕ) (summary : IsSu
       simulation.text_is ∙ ap (λ (ps : List ℕ). response ps simulation.lines simulation.rows.lines) periods ∙ ap (response (1 ∷ 2 ∷ []) simulation.lines) eight in
       let wide : (sample : ℕ) → sample < 8 → 2 ≤ length (simulation.lines sample) = λ sample below.
       let shown = simulation.shown.lines_are sample (omega (arith, below, eight)) in
-      let size : length (simulation.lines sample) ≡ 2 = ap (λ (values : List ℤ). length values) shown ∙ mapped-length _ (root_outputs simulation.diagram (attributes_of simulation.diagram)) ∙ two-elements simulation.diagram periods in
+      let size : length (simulation.lines sample) ≡ 2 =
+      ap (λ (values : List ℤ). length values) shown ∙ mapped-length _ (root_outputs simulation.diagram (attributes_of simulation.diagram)) ∙ two-elements simulation.diagram periods in
       omega (arith, size) in
       subst (λ (bytes : List ℕ). equal_count bytes bytes ≡ 12) (sym whole) (all-equal simulation.lines wide)
 

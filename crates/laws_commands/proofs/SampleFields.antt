@@ -1,5 +1,6 @@
 -- The response of a sample has a field for each number: one in each line, and a second in each other one.
-use Rattle.std.proofs.Common.{◌≡◌, ℕ, zero, suc, ◌+◌, ◌%◌, ◌≤◌, ◌<◌, ℤ, Bool, true, false, ◌&&◌, List, [], ◌∷◌, ◌++◌, length, Some, slice_get, bytes_eq, refl, sym, ap, ◌∙◌, append_assoc, append-nil, arith}
+use Rattle.std.proofs.Common.{◌≡◌, ℕ, zero, suc, ◌+◌, ◌%◌, ◌≤◌, ◌<◌, ℤ, Bool, true, false, ◌&&◌, List, [], ◌∷◌, ◌++◌, length, Some, slice_get, bytes_eq, refl, sym, ap}
+use Rattle.std.proofs.Common.{◌∙◌, append_assoc, append-nil, arith}
 use Rattle.std.specs.Prelude.{Option, ◌==◌, not, if◌then◌else◌}
 use Rattle.std.specs.List.{AllByRecursion, join_with_byte, slice_split}
 use Rattle.std.proofs.lemmas.Bool.{ne_eqb}
@@ -149,7 +150,8 @@ module _ (row : ℕ → List ℤ) where
     even : (sample later : ℕ) → later + suc sample ≡ 8 → (sample % 2 == 0) ≡ true → equal_in (text 8) (text 8) sample ≡ 2
     even sample later whole is =
         let one = first-equal sample later whole in
-        let other : (if sample % 2 == 0 then equal_at (text 8) (text 8) sample 1 else 0) ≡ 1 = ap (λ (b : Bool). if b then equal_at (text 8) (text 8) sample 1 else 0) is ∙ second-equal sample later whole in
+        let other : (if sample % 2 == 0 then equal_at (text 8) (text 8) sample 1 else 0) ≡ 1 =
+        ap (λ (b : Bool). if b then equal_at (text 8) (text 8) sample 1 else 0) is ∙ second-equal sample later whole in
         omega (arith, one, other)
 
     odd : (sample later : ℕ) → later + suc sample ≡ 8 → (sample % 2 == 0) ≡ false → equal_in (text 8) (text 8) sample ≡ 1

@@ -1,5 +1,6 @@
 -- The stimulus of a sample fits a column of 16 bits with a number in each base sample.
-use Rattle.std.proofs.Common.{◌≡◌, ℕ, zero, suc, ◌+◌, ◌-◌, ◌*◌, ◌/◌, ◌%◌, ◌^◌, ◌≤◌, ◌<◌, ℤ, pos, negsuc, Bool, true, false, ◌&&◌, List, [], ◌∷◌, ◌++◌, length, map, decimal, refl, ap, subst, ◌∙◌, append_assoc, arith}
+use Rattle.std.proofs.Common.{◌≡◌, ℕ, zero, suc, ◌+◌, ◌-◌, ◌*◌, ◌/◌, ◌%◌, ◌^◌, ◌≤◌, ◌<◌, ℤ, pos, negsuc, Bool, true, false, ◌&&◌, List, [], ◌∷◌, ◌++◌, length, map, decimal, refl, ap, subst}
+use Rattle.std.proofs.Common.{◌∙◌, append_assoc, arith}
 use Rattle.std.specs.Prelude.{Option, None, ◌==◌, ◌||◌, ◌≤ℤ◌, filter, int_le, nat_le, neg_ℤ, not, slice_index}
 use Rattle.std.specs.Char.{is_ascii_digit}
 use Rattle.std.specs.Fmt.{signed_decimal}
@@ -46,7 +47,8 @@ line-first : (v : ℤ) (rest : List ℕ) → lines ((signed_decimal v ++ 10 ∷ 
 line-first v rest =
     let some = length-slice_split newline rest in
     ap (λ (bytes : List ℕ). lines_of_parts (slice_split newline bytes)) (append_assoc (signed_decimal v) (10 ∷ []) rest)
-    ∙ ap lines_of_parts (slice_split_at newline (signed_decimal v) 10 rest (all_of (λ byte. newline byte ≡ false) (signed_decimal v) (none-marks newline (none-of-mark 10 (omega arith)) (signed_decimal v) (plain-signed v))) refl)
+    ∙ ap lines_of_parts (slice_split_at newline (signed_decimal v) 10 rest
+    (all_of (λ byte. newline byte ≡ false) (signed_decimal v) (none-marks newline (none-of-mark 10 (omega arith)) (signed_decimal v) (plain-signed v))) refl)
     ∙ before-others (signed_decimal v) (slice_split newline rest) (omega (arith, some))
     ∙ ap (λ (first : List ℕ). first ∷ lines rest) (kept-whole v)
 
@@ -176,7 +178,8 @@ lines-good : (count sample : ℕ) (places : List ℕ) → AreShort count places 
     → lines_fault (column ∷ []) 2 sample (map (λ i. signed_decimal (number_of count i)) places) ≡ None
 lines-good count sample [] short few = refl
 lines-good count sample (i ∷ places) short few =
-    ap (λ (fault : Option TableCause). fault_or fault (sample + 1) (lines_fault (column ∷ []) 2 (sample + 1) (map (λ k. signed_decimal (number_of count k)) places))) (line-good sample (number_of count i) (omega (arith, few)) short.0)
+    ap (λ (fault : Option TableCause). fault_or fault (sample + 1) (lines_fault (column ∷ []) 2 (sample + 1) (map (λ k. signed_decimal (number_of count k)) places)))
+    (line-good sample (number_of count i) (omega (arith, few)) short.0)
     ∙ lines-good count (sample + 1) places short.1 (omega (arith, few))
 
 eight-short : (count first many : ℕ) → AreShort count (range_with_len (suc first) many)

@@ -1,2 +1,3 @@
+pub mod FirstSample
 pub mod Laws
 pub mod inner

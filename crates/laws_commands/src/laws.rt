@@ -1,6 +1,7 @@
 //! What the definitions together say. Each law is a function that does nothing.
 ghost use Rattle.laws_commands.specs.Laws.{BadSimulatedIsReplayedOfFiles, HeldModulesAreRead, SimulatedIsReplayedOfFiles, SimulationsAreReplaysOfFiles};
-ghost use Rattle.laws_commands.specs.Laws.{BadReplayedIsSimulated, BadSimulatedIsReplayed, DiagramsAreOrdered, ReplayedIsSimulated, ReplaysAreResponses, ReplaysAreSimulations, SamplesAgree, SamplesAreEqual, SimulatedIsReplayed, SimulationsAreReplays, SimulationsAreStimulated};
+ghost use Rattle.laws_commands.specs.FirstSample.{first_sample};
+ghost use Rattle.laws_commands.specs.Laws.{BadReplayedIsSimulated, BadSimulatedIsReplayed, DiagramsAreOrdered, HasSampleColumns, ReplayedIsSimulated, ReplaysAreResponses, ReplaysAreSimulations, SamplesAgree, SamplesAreEqual, SimulatedIsReplayed, SimulationsAreReplays, SimulationsAreStimulated};
 ghost use Rattle.laws_commands.specs.inner.LawsBelow.{AreKnown};
 
 /// What the crates below say together.
@@ -56,10 +57,11 @@ pub fn files_are_replayed()
 
 /// What the bench of `run` tells of the module of a sample is the response that it is compared with,
 /// where the module isn't too long to be read. So the summary ends in `equal 12 of 12` where the
-/// diagram has the columns of samples.
+/// diagram has the columns of samples, as that of sample 1 has, drawn by hand.
 pub fn samples_agree()
     ensures agree { SamplesAgree }
     ensures equal { SamplesAreEqual }
+    ensures columns { HasSampleColumns first_sample }
 {
     all_are_known();
 }

@@ -131,7 +131,9 @@ outputs-are (a ∷ b ∷ []) names blocks tight =
     let first = output-is a (codes "y_0") (ap (λ (xs : List (List ℕ)). slice_index_or xs 0 []) names) (ap (λ (xs : List ℕ). slice_index_or xs 0 0) blocks) (tight 0 a refl) in
     let second = output-is b (codes "y_1") (ap (λ (xs : List (List ℕ)). slice_index_or xs 1 []) names) (ap (λ (xs : List ℕ). slice_index_or xs 1 0) blocks) (tight 1 b refl) in
     ap (λ (x : Output). x ∷ b ∷ []) first ∙ ap (λ (x : Output). output_of (codes "y_0") ∷ x ∷ []) second
-outputs-are (a ∷ b ∷ c ∷ given) names blocks tight = let size : suc (suc (suc (length (map (λ (output : Output). output.block) given)))) ≡ 2 = ap (λ (xs : List ℕ). length xs) blocks in absurd (omega (arith, size))
+outputs-are (a ∷ b ∷ c ∷ given) names blocks tight =
+    let size : suc (suc (suc (length (map (λ (output : Output). output.block) given)))) ≡ 2 =
+    ap (λ (xs : List ℕ). length xs) blocks in absurd (omega (arith, size))
 
 -- ---- what the outputs are asked for, by the attributes that are known
 abbrev Asked : Attributes → List Output → Type 0

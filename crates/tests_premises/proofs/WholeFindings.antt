@@ -215,9 +215,11 @@ module _ (one_fed : FedIsOne) (one_lat : LatenciesAreOne) (one_depth : DepthsAre
       let same = times_three size.timing size.timed in
       ⊎_elim
       (λ (many : 400000 < storage diagram (attributes_of diagram) three size.timing).
-      let few : storage diagram (attributes_of diagram) three size.timing ≤ 400000 = subst (λ (t : Timing). storage diagram (attributes_of diagram) three t ≤ 400000) (sym same) few_three in omega (arith, many, few))
+      let few : storage diagram (attributes_of diagram) three size.timing ≤ 400000 =
+      subst (λ (t : Timing). storage diagram (attributes_of diagram) three t ≤ 400000) (sym same) few_three in omega (arith, many, few))
       (λ (long : 16777216 < greatest_latency diagram (attributes_of diagram) three size.timing).
-      let short : greatest_latency diagram (attributes_of diagram) three size.timing ≡ 2 = subst (λ (t : Timing). greatest_latency diagram (attributes_of diagram) three t ≡ 2) (sym same) late_three in omega (arith, long, short))
+      let short : greatest_latency diagram (attributes_of diagram) three size.timing ≡ 2 =
+      subst (λ (t : Timing). greatest_latency diagram (attributes_of diagram) three t ≡ 2) (sym same) late_three in omega (arith, long, short))
       size.broken.broken
 
   -- two are too few
@@ -254,7 +256,8 @@ module _ (one_fed : FedIsOne) (one_lat : LatenciesAreOne) (one_depth : DepthsAre
   verdict_three (Bad rule shown) bad = absurd (not_bad_three (fault_of rule [] shown) bad)
 
   finding_of : (finding : Finding) (clocks : ℕ) (verdict : Judged) → finding.cycles ≡ clocks → finding.multipliers ≡ 1
-      → ((own : Judged) → IsJudged diagram (in_clocks clocks) own → own ≡ verdict) → IsJudged diagram (record { cycles = finding.cycles; multipliers = finding.multipliers; stages = 0 ∷ 0 ∷ 0 ∷ [] }) finding.verdict
+      → ((own : Judged) → IsJudged diagram (in_clocks clocks) own → own ≡ verdict) →
+      IsJudged diagram (record { cycles = finding.cycles; multipliers = finding.multipliers; stages = 0 ∷ 0 ∷ 0 ∷ [] }) finding.verdict
       → finding ≡ record { cycles = clocks; multipliers = 1; verdict = verdict }
   finding_of finding clocks verdict cycles multipliers judged is =
       let own : IsJudged diagram (in_clocks clocks) finding.verdict =

@@ -89,7 +89,8 @@ module _ (plan : Resolved) (alike : SharesAlike plan) (arcs_are : arcs_with diag
 
   shared_alike : (period : Option ℕ) (path : List ℕ) → shared_on diagram attributes plan period path ≡ shared_on diagram attributes resolved period path
   shared_alike period path =
-      count_alike (λ x. is_shared diagram attributes plan x && is_same_period (attributes.period_at x) period) (λ x. is_shared diagram attributes resolved x && is_same_period (attributes.period_at x) period)
+      count_alike (λ x. is_shared diagram attributes plan x && is_same_period (attributes.period_at x) period)
+      (λ x. is_shared diagram attributes resolved x && is_same_period (attributes.period_at x) period)
       (λ x. ap (λ (b : Bool). b && is_same_period (attributes.period_at x) period) (alike x)) path
 
   have_depth : (place depth : ℕ) → IsDepth diagram attributes resolved place depth → IsDepth diagram attributes plan place depth
