@@ -1,15 +1,14 @@
 -- The sum of a filter shows the convolution of its coefficients with its input.
-use Rattle.std.proofs.Common.{◌≡◌, ℕ, zero, suc, ◌+◌, ◌<◌, ◌≤◌, ◌^◌, Bool, true, false, cond, ℤ, pos, ◌+ℤ◌, ◌*ℤ◌, ◌≤ℤ◌, inl, inr, List, [], ◌∷◌, length, map, zip, Option, Some, None, slice_get}
-use Rattle.std.proofs.Common.{replicate, ◌==◌, ap, ap₂, sym, ◌∙◌, subst, refl, arith}
+use Rattle.std.proofs.Common.{◌≡◌, ℕ, zero, suc, ◌+◌, ◌<◌, ◌≤◌, ◌^◌, Bool, false, ℤ, pos, ◌+ℤ◌, ◌*ℤ◌, ◌≤ℤ◌, inl, inr, List, [], ◌∷◌, length, map, zip, Option, Some, None, slice_get}
+use Rattle.std.proofs.Common.{replicate, ap, ap₂, sym, ◌∙◌, subst, refl, arith}
 use Rattle.std.specs.Int.{int_gap}
 use Rattle.std.proofs.lemmas.List.{length-replicate}
 use Rattle.std.proofs.lemmas.Option.{MatchOption-at_some, same_Some, slice_get_within}
 use Rattle.fx_type.specs.declared.decimal.Decimal.{Decimal}
 use Rattle.fx_type.specs.declared.kind.FxType.{FxType}
-use Rattle.fx_type.specs.declared.kind.FxType.TheVariants.{Num, Logical}
-use Rattle.fx_type.specs.declared.rounding.Rounding.{Rounding}
+use Rattle.fx_type.specs.declared.kind.FxType.TheVariants.{Logical}
 use Rattle.fx_type.specs.declared.spec.TypeSpec.TheVariants.{Internal}
-use Rattle.fx_type.specs.Conversion.{Converts, Stores, StoresQuotient}
+use Rattle.fx_type.specs.Conversion.{Converts, Stores}
 use Rattle.fx_type.specs.FullType.{IsFullProduct}
 use Rattle.fx_type.specs.FxType.{IsType, InRange, frac_of}
 use Rattle.fx_type.specs.Laws.{FullProductIsOne}
@@ -36,33 +35,7 @@ use Rattle.dg_tables.specs.Laws.{SolvedIsInRange, TypesAreValid}
 use Rattle.dg_filters.specs.Laws.{TapsAreHeld}
 use Rattle.hw_lower.proofs.Products.{word-range, product-in-word}
 use Rattle.laws_filters.specs.Laws.{AreFitting, IsSolved, FittingConvolve}
-
--- a place that is repeated
-twice : (width element : ℕ) → repeated width (repeated width element) ≡ repeated width element
-twice width element = go (width == 1)
-  where
-    go : (one : Bool) → cond one 0 (cond one 0 element) ≡ cond one 0 element
-    go true = refl
-    go false = refl
-
-repeated_below : (width element : ℕ) → element < width → repeated width element < width
-repeated_below width element below = go (width == 1)
-  where
-    go : (one : Bool) → cond one 0 element < width
-    go true = omega (arith, below)
-    go false = below
-
--- a conversion looks at no more of the type that it comes from than the bits behind the point
-converts_from : (v : ℤ) (from like to : FxType) (mode : Rounding) (saturate : Bool) (r : ℤ) → frac_of like ≡ frac_of from → Converts v from to mode saturate r → Converts v like to mode saturate r
-converts_from v from like Logical mode saturate r same is = is
-converts_from v from like (Num signed width frac) mode saturate r same is =
-    subst (λ (f : ℤ). StoresQuotient (v *ℤ pos (2 ^ int_gap f frac)) (2 ^ int_gap frac f) (Num signed width frac) mode saturate r) (sym same) is
-
--- a term of a sum without signs
-term_at : (f : ℕ → FxType) (from count k : ℕ) → k < count → slice_get (zip (replicate count false) (map f (numbers_from from count))) k ≡ Some (false, f (from + k))
-term_at f from zero k below = absurd (omega (arith, below))
-term_at f from (suc count) zero below = let same : from ≡ from + 0 = omega arith in ap (λ (n : ℕ). Some (false, f n)) same
-term_at f from (suc count) (suc k) below = let same : suc from + k ≡ from + suc k = omega arith in term_at f (suc from) count k (omega (arith, below)) ∙ ap (λ (n : ℕ). Some (false, f n)) same
+use Rattle.laws_filters.proofs.Terms.{twice, repeated_below, converts_from, term_at}
 
 module _ (ranges : SolvedIsInRange) (identity : SameTypeIsIdentity) (storing : StoringGivesOne) (valid : TypesAreValid) (fulls : FullProductIsOne) (taps_held : TapsAreHeld)
     (diagram : Diagram) (order : List ℕ) (stimulus : Stimulus) (n : ℕ) (table : Table) (first : ℕ) (taps : Taps) (sum : Block) (enable : Option ℕ) (reset : Bool)

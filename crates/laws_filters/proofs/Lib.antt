@@ -1,5 +1,6 @@
 mod Convolution
 mod FilterFits
 mod Rates
+mod Terms
 mod Types
 mod Widths
