@@ -7,7 +7,7 @@ use Rattle.std.proofs.lemmas.List.{length-map}
 use Rattle.std.proofs.lemmas.Option.{get_or_from_slice_get, none-some, same_Some, slice_get_within, slice_get-get_or}
 use Rattle.hw_net.specs.declared.netlist.Frame.{Frame}
 use Rattle.hw_net.specs.declared.netlist.NetKind.{NetKind}
-use Rattle.hw_net.specs.declared.netlist.NetKind.TheVariants.{Comb, Reg, EnReg, Bridge, Unit, Counter}
+use Rattle.hw_net.specs.declared.netlist.NetKind.TheVariants.{Comb, Reg, EnReg, Acc, Bridge, Unit, Counter}
 use Rattle.hw_net.specs.Circuit.{Circuit}
 use Rattle.hw_net.specs.Growing.{Extends, Appends}
 use Rattle.hw_net.specs.Netlist.{HasWord}
@@ -127,6 +127,7 @@ part_is : (kind : NetKind) (bridges : Type 0) (frames : Frame → Type 0) → Is
 part_is (Comb op args) bridges frames is = is
 part_is (Reg frame slot first from) bridges frames is = tt
 part_is (EnReg frame enable reset first from) bridges frames is = is
+part_is (Acc frame enable from) bridges frames is = is
 part_is (Bridge frame live from) bridges frames is = tt
 part_is (Unit left right) bridges frames is = is
 part_is (Counter frame) bridges frames is = tt

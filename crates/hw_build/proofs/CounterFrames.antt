@@ -5,7 +5,7 @@ use Rattle.std.proofs.lemmas.Option.{none-some, same_Some}
 use Rattle.hw_net.specs.declared.netlist.Frame.{Frame}
 use Rattle.hw_net.specs.declared.netlist.Net.{Net}
 use Rattle.hw_net.specs.declared.netlist.NetKind.{NetKind}
-use Rattle.hw_net.specs.declared.netlist.NetKind.TheVariants.{Comb, Reg, EnReg, Bridge, Unit, Counter}
+use Rattle.hw_net.specs.declared.netlist.NetKind.TheVariants.{Comb, Reg, EnReg, Acc, Bridge, Unit, Counter}
 use Rattle.hw_net.specs.Frames.{counted_frame, IsCounterAt, CountersDiffer}
 use Rattle.hw_build.specs.Built.{counts, counter_count}
 
@@ -76,6 +76,7 @@ few_with net nets frames stand differ few = go net.kind refl
     go (Comb op args) e = plain (ap counts e)
     go (Reg frame slot first from) e = plain (ap counts e)
     go (EnReg frame enable reset first from) e = plain (ap counts e)
+    go (Acc frame enable from) e = plain (ap counts e)
     go (Bridge frame live from) e = plain (ap counts e)
     go (Unit left right) e = plain (ap counts e)
     go (Counter frame) e = one frame (ap counted_frame e) (ap counts e)

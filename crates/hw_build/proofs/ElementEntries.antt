@@ -11,7 +11,7 @@ use Rattle.dg_model.specs.Attributes.{attributes_of}
 use Rattle.dg_model.specs.Wires.{period_into}
 use Rattle.hw_net.specs.declared.netlist.Net.{Net}
 use Rattle.hw_net.specs.declared.netlist.NetKind.{NetKind}
-use Rattle.hw_net.specs.declared.netlist.NetKind.TheVariants.{Comb, Reg, EnReg, Bridge, Unit, Counter}
+use Rattle.hw_net.specs.declared.netlist.NetKind.TheVariants.{Comb, Reg, EnReg, Acc, Bridge, Unit, Counter}
 use Rattle.hw_net.specs.declared.netlist.NetOp.TheVariants.{Const, Multiply}
 use Rattle.hw_net.specs.Circuit.{Circuit}
 use Rattle.hw_net.specs.Growing.{with_net}
@@ -35,6 +35,7 @@ abbrev pub NotMultiply : NetKind → Type 0
 NotMultiply (Comb op args) = op ≢ Multiply
 NotMultiply (Reg frame slot first from) = ⊤
 NotMultiply (EnReg frame enable reset first from) = ⊤
+NotMultiply (Acc frame enable from) = ⊤
 NotMultiply (Bridge frame live from) = ⊤
 NotMultiply (Unit left right) = ⊤
 NotMultiply (Counter frame) = ⊤

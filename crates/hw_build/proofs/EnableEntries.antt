@@ -24,7 +24,7 @@ use Rattle.dg_model.specs.Wires.{period_into, width_into}
 use Rattle.hw_net.specs.declared.netlist.Frame.{Frame}
 use Rattle.hw_net.specs.declared.netlist.Net.{Net}
 use Rattle.hw_net.specs.declared.netlist.NetKind.{NetKind}
-use Rattle.hw_net.specs.declared.netlist.NetKind.TheVariants.{Comb, Reg, EnReg, Bridge, Unit, Counter}
+use Rattle.hw_net.specs.declared.netlist.NetKind.TheVariants.{Comb, Reg, EnReg, Acc, Bridge, Unit, Counter}
 use Rattle.hw_net.specs.declared.netlist.NetOp.TheVariants.{Const, Choose}
 use Rattle.hw_net.specs.Circuit.{Circuit}
 use Rattle.hw_net.specs.Growing.{with_net}
@@ -62,6 +62,7 @@ quiet_gate : (diagram : Diagram) (timing : Timing) (block : ℕ) (kind : NetKind
 quiet_gate diagram timing block (Comb op args) is = (tt, is)
 quiet_gate diagram timing block (Reg frame slot first from) is = absurd is
 quiet_gate diagram timing block (EnReg frame enable reset first from) is = absurd is
+quiet_gate diagram timing block (Acc frame enable from) is = absurd is
 quiet_gate diagram timing block (Bridge frame live from) is = absurd is
 quiet_gate diagram timing block (Unit left right) is = absurd is
 quiet_gate diagram timing block (Counter frame) is = absurd is

@@ -7,7 +7,7 @@ use Rattle.math_list.proofs.Places.{set_other, held}
 use Rattle.hw_net.specs.declared.netlist.Frame.{Frame}
 use Rattle.hw_net.specs.declared.netlist.Net.{Net}
 use Rattle.hw_net.specs.declared.netlist.NetKind.{NetKind}
-use Rattle.hw_net.specs.declared.netlist.NetKind.TheVariants.{Comb, Reg, EnReg, Bridge, Unit, Counter}
+use Rattle.hw_net.specs.declared.netlist.NetKind.TheVariants.{Comb, Reg, EnReg, Acc, Bridge, Unit, Counter}
 use Rattle.hw_net.specs.declared.netlist.NetOp.TheVariants.{Resize}
 use Rattle.hw_net.specs.Circuit.{Circuit}
 use Rattle.hw_net.specs.Frames.{counted_frame, IsCounter}
@@ -24,6 +24,7 @@ reads_then : (P : ℕ → Type 0) (kind : NetKind) (i read : ℕ) → All P (rea
 reads_then P (Comb op args) i read all at = held P args i read all at
 reads_then P (Reg frame slot first from) i read all at = absurd (none-some read at)
 reads_then P (EnReg frame enable reset first from) i read all at = absurd (none-some read at)
+reads_then P (Acc frame enable from) i read all at = absurd (none-some read at)
 reads_then P (Bridge frame live from) i read all at = held P (from ∷ []) i read all at
 reads_then P (Unit left right) i read all at = held P (left ∷ right ∷ []) i read all at
 reads_then P (Counter frame) i read all at = absurd (none-some read at)
@@ -41,6 +42,7 @@ counter_level : (own : ℕ) (kind : NetKind) (frame : Frame) → counted_frame k
 counter_level own (Comb op args) frame is = absurd (none-some frame is)
 counter_level own (Reg other slot first from) frame is = absurd (none-some frame is)
 counter_level own (EnReg other enable reset first from) frame is = absurd (none-some frame is)
+counter_level own (Acc other enable from) frame is = absurd (none-some frame is)
 counter_level own (Bridge other live from) frame is = absurd (none-some frame is)
 counter_level own (Unit left right) frame is = absurd (none-some frame is)
 counter_level own (Counter other) frame is = refl

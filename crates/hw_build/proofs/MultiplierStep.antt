@@ -7,7 +7,7 @@ use Rattle.std.proofs.lemmas.Option.{none-some, same_Some, get_or_from_slice_get
 use Rattle.hw_net.specs.declared.netlist.Frame.{Frame}
 use Rattle.hw_net.specs.declared.netlist.Net.{Net}
 use Rattle.hw_net.specs.declared.netlist.NetKind.{NetKind}
-use Rattle.hw_net.specs.declared.netlist.NetKind.TheVariants.{Comb, Reg, EnReg, Bridge, Unit, Counter}
+use Rattle.hw_net.specs.declared.netlist.NetKind.TheVariants.{Comb, Reg, EnReg, Acc, Bridge, Unit, Counter}
 use Rattle.hw_net.specs.declared.netlist.NetOp.{NetOp}
 use Rattle.hw_net.specs.declared.netlist.NetOp.TheVariants.{Const, Multiply}
 use Rattle.hw_net.specs.Circuit.{Circuit}
@@ -34,6 +34,7 @@ no_unit : (kind : NetKind) → unit_factors kind ≡ [] → is_unit kind ≡ fal
 no_unit (Comb op args) e = refl
 no_unit (Reg frame slot first from) e = refl
 no_unit (EnReg frame enable reset first from) e = refl
+no_unit (Acc frame enable from) e = refl
 no_unit (Bridge frame live from) e = refl
 no_unit (Unit left right) e = absurd (one_some (ap length e))
   where
@@ -49,6 +50,7 @@ part_factors : (frames : Frame → Type 0) (kind : NetKind) → IsPart frames ki
 part_factors frames (Comb op args) is = choosing_factors op args is
 part_factors frames (Reg frame slot first from) is = refl
 part_factors frames (EnReg frame enable reset first from) is = refl
+part_factors frames (Acc frame enable from) is = refl
 part_factors frames (Bridge frame live from) is = refl
 part_factors frames (Unit left right) is = refl
 part_factors frames (Counter frame) is = refl
@@ -57,6 +59,7 @@ part_frame : (frames : Frame → Type 0) (kind : NetKind) (frame : Frame) → Is
 part_frame frames (Comb op args) frame is e = absurd (none-some frame e)
 part_frame frames (Reg other slot first from) frame is e = absurd (none-some frame e)
 part_frame frames (EnReg other enable reset first from) frame is e = absurd (none-some frame e)
+part_frame frames (Acc other enable from) frame is e = absurd (none-some frame e)
 part_frame frames (Bridge other live from) frame is e = absurd (none-some frame e)
 part_frame frames (Unit left right) frame is e = absurd (none-some frame e)
 part_frame frames (Counter other) frame is e = subst frames (same_Some other frame e) is

@@ -7,7 +7,7 @@ use Rattle.math_num.specs.Word.{IsWord, InWord}
 use Rattle.hw_net.specs.declared.netlist.Frame.{Frame}
 use Rattle.hw_net.specs.declared.netlist.Net.{Net}
 use Rattle.hw_net.specs.declared.netlist.NetKind.{NetKind}
-use Rattle.hw_net.specs.declared.netlist.NetKind.TheVariants.{Comb, Reg, EnReg, Bridge, Unit, Counter}
+use Rattle.hw_net.specs.declared.netlist.NetKind.TheVariants.{Comb, Reg, EnReg, Acc, Bridge, Unit, Counter}
 use Rattle.hw_net.specs.declared.netlist.NetOp.{NetOp}
 use Rattle.hw_net.specs.declared.netlist.NetOp.TheVariants.{Input, Const, Resize, ShiftUp, ShiftDown, Add, Subtract, Negate, Multiply, And, Or, Xor, Not, Less, Equal, Choose, Slice}
 use Rattle.hw_net.specs.Circuit.{Circuit}
@@ -82,6 +82,7 @@ module _ (closed hubs : ℕ) (now later : Circuit) (goes : GoesOn closed hubs no
   kind_later cycles inputs width signed (Comb op args) there has = (has.0, parts_later inputs args op there has.1)
   kind_later cycles inputs width signed (Reg frame slot first from) there has = (has.0, word_later closed hubs now later from width signed goes has.1, has.2)
   kind_later cycles inputs width signed (EnReg frame enable reset first from) there has = (has.0, word_later closed hubs now later from width signed goes has.1, has.2)
+  kind_later cycles inputs width signed (Acc frame enable from) there has = (has.0, word_later closed hubs now later from width signed goes has.1, has.2)
   kind_later cycles inputs width signed (Bridge frame live from) there has = (has.0, has.1, word_later closed hubs now later from width signed goes has.2)
   kind_later cycles inputs width signed (Unit left right) there has =
       products_later left right width signed
@@ -113,6 +114,7 @@ kind_more : (nets : List Net) (cycles inputs more width : ℕ) (signed : Bool) (
 kind_more nets cycles inputs more width signed (Comb op args) less has = (has.0, parts_more nets inputs more args op less has.1)
 kind_more nets cycles inputs more width signed (Reg frame slot first from) less has = has
 kind_more nets cycles inputs more width signed (EnReg frame enable reset first from) less has = has
+kind_more nets cycles inputs more width signed (Acc frame enable from) less has = has
 kind_more nets cycles inputs more width signed (Bridge frame live from) less has = has
 kind_more nets cycles inputs more width signed (Unit left right) less has = has
 kind_more nets cycles inputs more width signed (Counter frame) less has = has

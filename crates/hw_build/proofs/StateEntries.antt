@@ -20,7 +20,7 @@ use Rattle.dg_model.specs.Library.{row_of}
 use Rattle.dg_model.specs.Wires.{period_into}
 use Rattle.hw_net.specs.declared.netlist.Frame.{Frame}
 use Rattle.hw_net.specs.declared.netlist.NetKind.{NetKind}
-use Rattle.hw_net.specs.declared.netlist.NetKind.TheVariants.{Comb, Reg, EnReg, Bridge, Unit, Counter}
+use Rattle.hw_net.specs.declared.netlist.NetKind.TheVariants.{Comb, Reg, EnReg, Acc, Bridge, Unit, Counter}
 use Rattle.hw_net.specs.Circuit.{Circuit}
 use Rattle.hw_net.specs.Netlist.{HasWord, reads_now}
 use Rattle.hw_net.specs.Registers.{IsReg, IsEnReg}
@@ -49,6 +49,7 @@ pub quiet_frame : (diagram : Diagram) (timing : Timing) (block : ℕ) (frame : F
 quiet_frame diagram timing block frame own (Comb op args) is = absurd is
 quiet_frame diagram timing block frame own (Reg other slot first from) is = (subst (IsFrameOf diagram timing block) (sym is) own, tt)
 quiet_frame diagram timing block frame own (EnReg other enable reset first from) is = (subst (IsFrameOf diagram timing block) (sym is) own, tt)
+quiet_frame diagram timing block frame own (Acc other enable from) is = absurd is
 quiet_frame diagram timing block frame own (Bridge other live from) is = absurd is
 quiet_frame diagram timing block frame own (Unit left right) is = absurd is
 quiet_frame diagram timing block frame own (Counter other) is = (subst (IsFrameOf diagram timing block) (sym is) own, tt)

@@ -9,7 +9,7 @@ use Rattle.dg_model.specs.Attributes.{attributes_of}
 use Rattle.dg_model.specs.Wires.{repeated}
 use Rattle.hw_net.specs.declared.netlist.Net.{Net}
 use Rattle.hw_net.specs.declared.netlist.NetKind.{NetKind}
-use Rattle.hw_net.specs.declared.netlist.NetKind.TheVariants.{Comb, Reg, EnReg, Bridge, Unit, Counter}
+use Rattle.hw_net.specs.declared.netlist.NetKind.TheVariants.{Comb, Reg, EnReg, Acc, Bridge, Unit, Counter}
 use Rattle.hw_net.specs.declared.netlist.NetOp.{NetOp}
 use Rattle.hw_net.specs.declared.netlist.NetOp.TheVariants.{Input, Const, Resize, ShiftUp, ShiftDown, Add, Subtract, Negate, Multiply, And, Or, Xor, Not, Less, Equal, Choose, Slice}
 use Rattle.hw_net.specs.Circuit.{Circuit}
@@ -48,6 +48,7 @@ abbrev is_resize : NetKind → Bool
 is_resize (Comb op args) = is_resize_op op
 is_resize (Reg frame slot first from) = false
 is_resize (EnReg frame enable reset first from) = false
+is_resize (Acc frame enable from) = false
 is_resize (Bridge frame live from) = false
 is_resize (Unit left right) = false
 is_resize (Counter frame) = false

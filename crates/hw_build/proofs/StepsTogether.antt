@@ -11,7 +11,7 @@ use Rattle.dg_model.specs.RootElements.{RootElement, root_element, root_inputs}
 use Rattle.hw_net.specs.declared.netlist.Frame.{Frame}
 use Rattle.hw_net.specs.declared.netlist.Net.{Net}
 use Rattle.hw_net.specs.declared.netlist.NetKind.{NetKind}
-use Rattle.hw_net.specs.declared.netlist.NetKind.TheVariants.{Comb, Reg, EnReg, Bridge, Unit, Counter}
+use Rattle.hw_net.specs.declared.netlist.NetKind.TheVariants.{Comb, Reg, EnReg, Acc, Bridge, Unit, Counter}
 use Rattle.hw_net.specs.declared.netlist.NetOp.TheVariants.{Input, Resize}
 use Rattle.hw_net.specs.declared.netlist.NetPort.{NetPort}
 use Rattle.hw_net.specs.Circuit.{Circuit}
@@ -111,6 +111,7 @@ line_plain : (kind : NetKind) → IsLinePart kind → (own_factors kind ≡ []) 
 line_plain (Comb op args) is = absurd is
 line_plain (Reg frame slot first from) is = (refl, refl)
 line_plain (EnReg frame enable reset first from) is = absurd is
+line_plain (Acc frame enable from) is = absurd is
 line_plain (Bridge frame live from) is = (refl, refl)
 line_plain (Unit left right) is = absurd is
 line_plain (Counter frame) is = (refl, refl)

@@ -11,7 +11,7 @@ use Rattle.hw_arcs.specs.Latencies.{latency_at}
 use Rattle.hw_net.specs.declared.netlist.Frame.{Frame}
 use Rattle.hw_net.specs.declared.netlist.Net.{Net}
 use Rattle.hw_net.specs.declared.netlist.NetKind.{NetKind}
-use Rattle.hw_net.specs.declared.netlist.NetKind.TheVariants.{Comb, Reg, EnReg, Bridge, Unit, Counter}
+use Rattle.hw_net.specs.declared.netlist.NetKind.TheVariants.{Comb, Reg, EnReg, Acc, Bridge, Unit, Counter}
 use Rattle.hw_net.specs.Circuit.{Circuit}
 use Rattle.hw_net.specs.NetRows.{span_of}
 use Rattle.hw_net.specs.Registers.{Span}
@@ -40,6 +40,7 @@ pub no_factors : (kind : NetKind) → is_unit kind ≡ false → unit_factors ki
 no_factors (Comb op args) e = refl
 no_factors (Reg frame slot first from) e = refl
 no_factors (EnReg frame enable reset first from) e = refl
+no_factors (Acc frame enable from) e = refl
 no_factors (Bridge frame live from) e = refl
 no_factors (Unit left right) e = absurd (false≢true (sym e))
 no_factors (Counter frame) e = refl
@@ -48,6 +49,7 @@ some_factors : (kind : NetKind) → is_unit kind ≡ true → (factors : Factors
 some_factors (Comb op args) e = absurd (false≢true e)
 some_factors (Reg frame slot first from) e = absurd (false≢true e)
 some_factors (EnReg frame enable reset first from) e = absurd (false≢true e)
+some_factors (Acc frame enable from) e = absurd (false≢true e)
 some_factors (Bridge frame live from) e = absurd (false≢true e)
 some_factors (Unit left right) e = (record { left = left; right = right }, refl)
 some_factors (Counter frame) e = absurd (false≢true e)

@@ -6,7 +6,7 @@ use Rattle.dg_model.specs.Attributes.{attributes_of}
 use Rattle.hw_latency.specs.declared.latencies.Latencies.{Latencies}
 use Rattle.hw_net.specs.declared.netlist.Net.{Net}
 use Rattle.hw_net.specs.declared.netlist.NetKind.{NetKind}
-use Rattle.hw_net.specs.declared.netlist.NetKind.TheVariants.{Comb, Reg, EnReg, Bridge, Unit, Counter}
+use Rattle.hw_net.specs.declared.netlist.NetKind.TheVariants.{Comb, Reg, EnReg, Acc, Bridge, Unit, Counter}
 use Rattle.hw_net.specs.Circuit.{Circuit}
 use Rattle.hw_net.specs.Frames.{register_count}
 use Rattle.hw_net.specs.Netlist.{IsNetlist}
@@ -31,6 +31,7 @@ abbrev pub counts : NetKind → ℕ
 counts (Comb op args) = 0
 counts (Reg frame slot first from) = 0
 counts (EnReg frame enable reset first from) = 0
+counts (Acc frame enable from) = 0
 counts (Bridge frame live from) = 0
 counts (Unit left right) = 0
 counts (Counter frame) = 1

@@ -16,7 +16,7 @@ use Rattle.hw_arcs.specs.Latencies.{latency_at}
 use Rattle.hw_net.specs.declared.netlist.NetOp.{NetOp}
 use Rattle.hw_net.specs.declared.netlist.NetOp.TheVariants.{Input, Const, Resize, ShiftUp, ShiftDown, Add, Subtract, Negate, Multiply, And, Or, Xor, Not, Less, Equal, Choose, Slice}
 use Rattle.hw_net.specs.declared.netlist.NetKind.{NetKind}
-use Rattle.hw_net.specs.declared.netlist.NetKind.TheVariants.{Comb, Reg, EnReg, Bridge, Unit, Counter}
+use Rattle.hw_net.specs.declared.netlist.NetKind.TheVariants.{Comb, Reg, EnReg, Acc, Bridge, Unit, Counter}
 use Rattle.hw_net.specs.Circuit.{Circuit}
 use Rattle.hw_net.specs.NetRows.{Inputs, Rows}
 use Rattle.hw_sched.specs.Slots.{Timing as Times, Operation, slot_of, unit_of}
@@ -34,6 +34,7 @@ abbrev pub unit_factors : NetKind → List Factors
 unit_factors (Comb op args) = []
 unit_factors (Reg frame slot first from) = []
 unit_factors (EnReg frame enable reset first from) = []
+unit_factors (Acc frame enable from) = []
 unit_factors (Bridge frame live from) = []
 unit_factors (Unit left right) = record { left = left; right = right } ∷ []
 unit_factors (Counter frame) = []
@@ -62,6 +63,7 @@ abbrev pub own_factors : NetKind → List Factors
 own_factors (Comb op args) = op_factors args op
 own_factors (Reg frame slot first from) = []
 own_factors (EnReg frame enable reset first from) = []
+own_factors (Acc frame enable from) = []
 own_factors (Bridge frame live from) = []
 own_factors (Unit left right) = []
 own_factors (Counter frame) = []

@@ -2,7 +2,7 @@
 use Rattle.std.proofs.Common.{◌≡◌, inl, inr, ℕ, zero, suc, ◌<◌, List, [], ◌∷◌, map, Contains, slice_get, refl, ap, sym, ◌∙◌, arith, ℤ}
 use Rattle.hw_net.specs.declared.netlist.Net.{Net}
 use Rattle.hw_net.specs.declared.netlist.NetKind.{NetKind}
-use Rattle.hw_net.specs.declared.netlist.NetKind.TheVariants.{Comb, Reg, EnReg, Bridge, Unit, Counter}
+use Rattle.hw_net.specs.declared.netlist.NetKind.TheVariants.{Comb, Reg, EnReg, Acc, Bridge, Unit, Counter}
 use Rattle.hw_net.specs.declared.netlist.NetOp.{NetOp}
 use Rattle.hw_net.specs.declared.netlist.NetOp.TheVariants.{Const, Resize}
 use Rattle.hw_net.specs.NetRows.{number_at, operands_at}
@@ -17,6 +17,7 @@ abbrev op-of : NetKind → NetOp
 op-of (Comb op args) = op
 op-of (Reg frame slot first from) = Resize
 op-of (EnReg frame enable reset first from) = Resize
+op-of (Acc frame enable from) = Resize
 op-of (Bridge frame live from) = Resize
 op-of (Unit left right) = Resize
 op-of (Counter frame) = Resize
@@ -35,6 +36,7 @@ const-from : (root : ℕ → ℕ) (kind : NetKind) (value : ℤ) (args : List �
 const-from root (Comb op xs) value args e = (xs, ap (λ (o : NetOp). Comb o xs) (ap op-of e))
 const-from root (Reg frame slot first from) value args e = absurd (cc e)
 const-from root (EnReg frame enable reset first from) value args e = absurd (cc e)
+const-from root (Acc frame enable from) value args e = absurd (cc e)
 const-from root (Bridge frame live from) value args e = absurd (cc e)
 const-from root (Unit left right) value args e = absurd (cc e)
 const-from root (Counter frame) value args e = absurd (cc e)

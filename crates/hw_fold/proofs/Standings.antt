@@ -7,7 +7,7 @@ use Rattle.std.proofs.lemmas.Option.{get_or_from_slice_get, slice_get-get_or}
 use Rattle.math_num.specs.Word.{InWord, IsWrapped}
 use Rattle.hw_net.specs.declared.netlist.Net.{Net}
 use Rattle.hw_net.specs.declared.netlist.NetKind.{NetKind}
-use Rattle.hw_net.specs.declared.netlist.NetKind.TheVariants.{Comb, Reg, EnReg, Bridge, Unit, Counter}
+use Rattle.hw_net.specs.declared.netlist.NetKind.TheVariants.{Comb, Reg, EnReg, Acc, Bridge, Unit, Counter}
 use Rattle.hw_net.specs.declared.netlist.NetOp.TheVariants.{Const}
 use Rattle.hw_net.specs.Netlist.{reads}
 use Rattle.hw_net.specs.NetRows.{operands_at}
@@ -37,6 +37,7 @@ redirected-over : (f g : ℕ → ℕ) (kind : NetKind) → ((read : ℕ) → Con
 redirected-over f g (Comb op args) same = ap (Comb op) (map-over f g args same)
 redirected-over f g (Reg frame slot first from) same = ap (Reg frame slot first) (same from (0, omega arith, refl))
 redirected-over f g (EnReg frame enable reset first from) same = (let a = same enable (0, omega arith, refl) in let b = same from (1, omega arith, refl) in λ i. EnReg frame (a i) reset first (b i))
+redirected-over f g (Acc frame enable from) same = (let a = same enable (0, omega arith, refl) in let b = same from (1, omega arith, refl) in λ i. Acc frame (a i) (b i))
 redirected-over f g (Bridge frame live from) same = ap (Bridge frame live) (same from (0, omega arith, refl))
 redirected-over f g (Unit left right) same = (let a = same left (0, omega arith, refl) in let b = same right (1, omega arith, refl) in λ i. Unit (a i) (b i))
 redirected-over f g (Counter frame) same = refl

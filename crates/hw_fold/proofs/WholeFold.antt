@@ -9,7 +9,7 @@ use Rattle.hw_net.specs.declared.netlist.NetLabel.{NetLabel}
 use Rattle.hw_net.specs.declared.netlist.NetPort.{NetPort}
 use Rattle.hw_net.specs.declared.netlist.NetOp.TheVariants.{Input}
 use Rattle.hw_net.specs.declared.netlist.NetKind.{NetKind}
-use Rattle.hw_net.specs.declared.netlist.NetKind.TheVariants.{Comb, Reg, EnReg, Bridge, Unit, Counter}
+use Rattle.hw_net.specs.declared.netlist.NetKind.TheVariants.{Comb, Reg, EnReg, Acc, Bridge, Unit, Counter}
 use Rattle.hw_net.specs.Circuit.{Circuit}
 use Rattle.hw_net.specs.Emittable.{IsEmittable}
 use Rattle.hw_net.specs.Frames.{counted_frame, counter_of, frame_of}
@@ -38,6 +38,7 @@ input-of root (Comb op []) k e = e
 input-of root (Comb op (x ∷ args)) k e = absurd (cc e)
 input-of root (Reg frame slot first from) k e = absurd (cc e)
 input-of root (EnReg frame enable reset first from) k e = absurd (cc e)
+input-of root (Acc frame enable from) k e = absurd (cc e)
 input-of root (Bridge frame live from) k e = absurd (cc e)
 input-of root (Unit left right) k e = absurd (cc e)
 input-of root (Counter frame) k e = absurd (cc e)

@@ -185,6 +185,6 @@ pub fn is_alike(one: &NetKind, other: &NetKind, roots: &[u32]) -> bool
         NetKind::EnReg { .. } => are_enabled_registers_alike(one, other, roots),
         NetKind::Bridge { .. } => are_bridges_alike(one, other, roots),
         NetKind::Counter { .. } => are_counters_alike(one, other),
-        NetKind::Unit { .. } => false,
+        NetKind::Acc { .. } | NetKind::Unit { .. } => false,
     }
 }

@@ -101,6 +101,14 @@ pub fn key_of(net: &Net, roots: &[u32]) -> Key {
                 .valued(*first);
             key.reading(&[*enable, *from], roots)
         }
+        NetKind::Acc {
+            frame,
+            enable,
+            from,
+        } => word
+            .with(23)
+            .framed(*frame)
+            .reading(&[*enable, *from], roots),
         NetKind::Bridge { frame, live, from } => {
             let key = word.with(3).framed(*frame).with(u64::from(*live));
             key.reading(&[*from], roots)

@@ -17,6 +17,7 @@ fn wire_of(kind: &NetKind) -> Option<u32>
         NetKind::Reg { from, .. } => Some(*from),
         NetKind::Comb { .. }
         | NetKind::EnReg { .. }
+        | NetKind::Acc { .. }
         | NetKind::Bridge { .. }
         | NetKind::Unit { .. }
         | NetKind::Counter { .. } => None,

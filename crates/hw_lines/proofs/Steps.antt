@@ -5,7 +5,7 @@ use Rattle.std.proofs.lemmas.Option.{slice_get_within}
 use Rattle.std.proofs.lemmas.Nat.{mul-lt}
 use Rattle.hw_net.specs.declared.netlist.Frame.{Frame}
 use Rattle.hw_net.specs.declared.netlist.NetKind.{NetKind}
-use Rattle.hw_net.specs.declared.netlist.NetKind.TheVariants.{Comb, Reg, EnReg, Bridge, Unit, Counter}
+use Rattle.hw_net.specs.declared.netlist.NetKind.TheVariants.{Comb, Reg, EnReg, Acc, Bridge, Unit, Counter}
 use Rattle.hw_net.specs.Circuit.{Circuit}
 use Rattle.hw_net.specs.Netlist.{HasWord}
 use Rattle.hw_net.specs.NetRows.{span_of}
@@ -122,6 +122,7 @@ part-wider : (bridges more : Type 0) (frames others : Frame → Type 0) (kind : 
 part-wider bridges more frames others (Comb op args) f g is = is
 part-wider bridges more frames others (Reg frame slot first from) f g is = is
 part-wider bridges more frames others (EnReg frame enable reset first from) f g is = is
+part-wider bridges more frames others (Acc frame enable from) f g is = is
 part-wider bridges more frames others (Bridge frame live from) f g is = f is
 part-wider bridges more frames others (Unit left right) f g is = is
 part-wider bridges more frames others (Counter frame) f g is = g frame is

@@ -7,7 +7,7 @@ use Rattle.math_num.specs.Word.{IsWord, InWord}
 use Rattle.hw_net.specs.declared.netlist.Frame.{Frame}
 use Rattle.hw_net.specs.declared.netlist.Net.{Net}
 use Rattle.hw_net.specs.declared.netlist.NetKind.{NetKind}
-use Rattle.hw_net.specs.declared.netlist.NetKind.TheVariants.{Comb, Reg, EnReg, Bridge, Unit}
+use Rattle.hw_net.specs.declared.netlist.NetKind.TheVariants.{Comb, Reg, EnReg, Acc, Bridge, Unit}
 use Rattle.hw_net.specs.declared.netlist.NetKind.TheVariants.{Counter}
 use Rattle.hw_net.specs.Circuit.{Circuit}
 use Rattle.hw_net.specs.ByFrame.{is_same_frame}
@@ -79,6 +79,7 @@ abbrev pub IsPart : Type 0 → (Frame → Type 0) → NetKind → Type 0
 IsPart bridges frames (Comb op args) = ⊥
 IsPart bridges frames (Reg frame slot first from) = ⊤
 IsPart bridges frames (EnReg frame enable reset first from) = ⊥
+IsPart bridges frames (Acc frame enable from) = ⊥
 IsPart bridges frames (Bridge frame live from) = bridges
 IsPart bridges frames (Unit left right) = ⊥
 IsPart bridges frames (Counter frame) = frames frame

@@ -5,7 +5,7 @@ use Rattle.hw_net.specs.declared.netlist.Net.{Net}
 use Rattle.hw_net.specs.declared.netlist.NetOp.{NetOp}
 use Rattle.hw_net.specs.declared.netlist.NetOp.TheVariants.{Input, Const, Resize, ShiftUp, ShiftDown, Add, Subtract, Negate, Multiply, And, Or, Xor, Not, Less, Equal, Choose, Slice}
 use Rattle.hw_net.specs.declared.netlist.NetKind.{NetKind}
-use Rattle.hw_net.specs.declared.netlist.NetKind.TheVariants.{Comb, Reg, EnReg, Bridge, Unit, Counter}
+use Rattle.hw_net.specs.declared.netlist.NetKind.TheVariants.{Comb, Reg, EnReg, Acc, Bridge, Unit, Counter}
 use Rattle.hw_net.specs.Circuit.{Circuit}
 use Rattle.hw_net.specs.Frames.{is_register, register_count}
 use Rattle.hw_build.specs.Built.{counts, counter_count}
@@ -48,6 +48,7 @@ one-name : (netlist : Circuit) (k : ℕ) (kind : NetKind) → length (register_n
 one-name netlist k (Comb op args) = refl
 one-name netlist k (Reg frame slot first from) = refl
 one-name netlist k (EnReg frame enable reset first from) = refl
+one-name netlist k (Acc frame enable from) = refl
 one-name netlist k (Bridge frame live from) = refl
 one-name netlist k (Unit left right) = refl
 one-name netlist k (Counter frame) = refl
@@ -66,6 +67,7 @@ unit-same : (width : ℕ) (kind : NetKind) → map factors_of (unit_product widt
 unit-same width (Comb op args) = refl
 unit-same width (Reg frame slot first from) = refl
 unit-same width (EnReg frame enable reset first from) = refl
+unit-same width (Acc frame enable from) = refl
 unit-same width (Bridge frame live from) = refl
 unit-same width (Unit left right) = refl
 unit-same width (Counter frame) = refl
@@ -93,6 +95,7 @@ own-same : (width : ℕ) (kind : NetKind) → map factors_of (comb_product width
 own-same width (Comb op args) = op-same width args op
 own-same width (Reg frame slot first from) = refl
 own-same width (EnReg frame enable reset first from) = refl
+own-same width (Acc frame enable from) = refl
 own-same width (Bridge frame live from) = refl
 own-same width (Unit left right) = refl
 own-same width (Counter frame) = refl

@@ -30,7 +30,7 @@ use Rattle.hw_net.specs.declared.netlist.NetPort.{NetPort}
 use Rattle.hw_net.specs.declared.netlist.NetOp.{NetOp}
 use Rattle.hw_net.specs.declared.netlist.NetOp.TheVariants.{Input}
 use Rattle.hw_net.specs.declared.netlist.NetKind.{NetKind}
-use Rattle.hw_net.specs.declared.netlist.NetKind.TheVariants.{Comb, Reg, EnReg, Bridge, Unit, Counter}
+use Rattle.hw_net.specs.declared.netlist.NetKind.TheVariants.{Comb, Reg, EnReg, Acc, Bridge, Unit, Counter}
 use Rattle.hw_net.specs.Circuit.{Circuit}
 use Rattle.hw_net.specs.Frames.{is_frame, counted_frame, counter_from, counter_of}
 use Rattle.hw_net.specs.Netlist.{IsNetlist, IsKind, reads}
@@ -71,9 +71,10 @@ counter-from (net ∷ nets) start frame number e = by (is_frame frame (counted_f
   by true further f = let same : start ≡ number = cc f in omega arith
   by false further f = let rest = further f in omega (arith, rest)
 
--- a net that is neither a Counter nor a Bridge
+-- a net that is no Counter, no Bridge and no Acc
 pub record IsPlain (kind : NetKind) : Type 0 where
   pub no_counter : (frame : Frame) → kind ≢ Counter frame
+  pub no_acc : (frame : Frame) (enable from : ℕ) → kind ≢ Acc frame enable from
   pub no_bridge : (frame : Frame) (live from : ℕ) → kind ≢ Bridge frame live from
 
 module _ {netlist : Circuit} {m : Module} (runs : IsNetlist netlist) (emits : IsEmittable netlist) (made : IsEmissionOf netlist m) where
@@ -103,6 +104,11 @@ module _ {netlist : Circuit} {m : Module} (runs : IsNetlist netlist) (emits : Is
     reader k (Reg frame slot first from) below is there input (inr c) = absurd (counted frame c)
     reader k (EnReg frame enable resets first from) below is there input (inl n) = named k (EnReg frame enable resets first from) there n
     reader k (EnReg frame enable resets first from) below is there input (inr c) = absurd (counted frame c)
+    reader k (Acc frame enable from) below is there input (inl n) = named k (Acc frame enable from) there n
+    reader k (Acc frame enable from) below is there input (inr (inl c)) = absurd (counted frame c)
+    reader k (Acc frame enable from) below is there input (inr (inr e)) =
+        let same = made.names.nets read k h below e in
+        absurd (plain.no_acc frame enable from (ap (λ (n : ℕ). (net_at netlist.nets n).kind) same ∙ is))
     reader k (Bridge frame live from) below is there input (inl n) = named k (Bridge frame live from) there n
     reader k (Bridge frame live from) below is there input (inr (inl c)) = absurd (counted frame c)
     reader k (Bridge frame live from) below is there input (inr (inr (inl e))) =
@@ -146,6 +152,7 @@ module _ {netlist : Circuit} {m : Module} (runs : IsNetlist netlist) (emits : Is
       no-bridge (Comb op args) p b = b
       no-bridge (Reg frame slot first from) p b = b
       no-bridge (EnReg frame enable resets first from) p b = b
+      no-bridge (Acc frame enable from) p b = b
       no-bridge (Bridge frame live from) p b = p.no_bridge frame live from refl
       no-bridge (Unit left right) p b = b
       no-bridge (Counter frame) p b = b
@@ -180,10 +187,10 @@ module _ {netlist : Circuit} {m : Module} (runs : IsNetlist netlist) (emits : Is
       of (inr (inr e)) = absurd (enable-shown e)
 
 comb-plain : (kind : NetKind) (op : NetOp) (args : List ℕ) → kind ≡ Comb op args → IsPlain kind
-comb-plain kind op args is = record { no_counter = λ frame e. absurd (cc (is, e)); no_bridge = λ frame live from e. absurd (cc (is, e)) }
+comb-plain kind op args is = record { no_counter = λ frame e. absurd (cc (is, e)); no_acc = λ frame enable from e. absurd (cc (is, e)); no_bridge = λ frame live from e. absurd (cc (is, e)) }
 
 reg-plain : (kind : NetKind) (frame : Frame) (slot : ℕ) (first : ℤ) (from : ℕ) → kind ≡ Reg frame slot first from → IsPlain kind
-reg-plain kind frame slot first from is = record { no_counter = λ other e. absurd (cc (is, e)); no_bridge = λ other live source e. absurd (cc (is, e)) }
+reg-plain kind frame slot first from is = record { no_counter = λ other e. absurd (cc (is, e)); no_acc = λ other enable source e. absurd (cc (is, e)); no_bridge = λ other live source e. absurd (cc (is, e)) }
 
 -- the Counter of a frame is a Counter
 abbrev CountsAt : List Net → ℕ → Type 0
@@ -215,6 +222,7 @@ plain-uncounted : (kind : NetKind) → IsPlain kind → (own : Frame) → counte
 plain-uncounted (Comb op args) p own e = absurd (cc e)
 plain-uncounted (Reg frame slot first from) p own e = absurd (cc e)
 plain-uncounted (EnReg frame enable resets first from) p own e = absurd (cc e)
+plain-uncounted (Acc frame enable from) p own e = absurd (cc e)
 plain-uncounted (Bridge frame live from) p own e = absurd (cc e)
 plain-uncounted (Unit left right) p own e = absurd (cc e)
 plain-uncounted (Counter frame) p own e = p.no_counter frame refl

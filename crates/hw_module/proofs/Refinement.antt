@@ -19,7 +19,7 @@ use Rattle.hw_build.specs.Serving.{AreOperands, clock_of}
 use Rattle.hw_net.specs.declared.netlist.Net.{Net}
 use Rattle.hw_net.specs.declared.netlist.NetPort.{NetPort}
 use Rattle.hw_net.specs.declared.netlist.NetKind.{NetKind}
-use Rattle.hw_net.specs.declared.netlist.NetKind.TheVariants.{Comb, Reg, EnReg, Bridge, Unit, Counter}
+use Rattle.hw_net.specs.declared.netlist.NetKind.TheVariants.{Comb, Reg, EnReg, Acc, Bridge, Unit, Counter}
 use Rattle.hw_net.specs.Circuit.{Circuit}
 use Rattle.hw_net.specs.Emittable.{IsEmittable}
 use Rattle.hw_net.specs.Frames.{is_register, register_count}
@@ -52,6 +52,7 @@ held-one : (kind : NetKind) → held kind ≡ (if is_register kind then 1 else 0
 held-one (Comb op args) = refl
 held-one (Reg frame slot first from) = refl
 held-one (EnReg frame enable reset first from) = refl
+held-one (Acc frame enable from) = refl
 held-one (Bridge frame live from) = refl
 held-one (Unit left right) = refl
 held-one (Counter frame) = refl

@@ -5,9 +5,9 @@ use Rattle.std.proofs.lemmas.Bool.{cases_lt}
 use Rattle.std.proofs.Math.IntN.{+ℤ_idr}
 use Rattle.math_num.specs.Word.{InWord, IsCongruent, IsWrapped}
 use Rattle.math_num.proofs.Arithmetic.{add-scaled, IsCongruent-refl, int_cases}
-use Rattle.hw_net.specs.Registers.{Wave, Span, Takes}
+use Rattle.hw_net.specs.Registers.{Wave, Span, Takes, IsAcc}
 use Rattle.hw_net.specs.Closed.{frame_start}
-use Rattle.hw_net.specs.Gathered.{IsAcc, IsPart, total, AccShows}
+use Rattle.hw_net.specs.Gathered.{IsPart, total, AccShows}
 use Rattle.hw_net.proofs.Clocks.{none-before, not-takes, takes-at, place_in}
 
 added : (sum v p r : ℤ) (width : ℕ) (signed : Bool) → IsWrapped sum width signed v → IsWrapped (v +ℤ p) width signed r → IsWrapped (sum +ℤ p) width signed r
@@ -17,14 +17,14 @@ added sum v p r width signed a b = record {
 }
 
 module _ (n : ℕ) (span : Span) (width : ℕ) (signed : Bool) (enable from part wave : Wave) (some : 0 < span.length)
-    (words : (c : ℕ) → c < n → InWord width signed (wave c)) (quiet : (c : ℕ) → c < span.start → enable c ≡ pos 0) (parts : IsPart enable from part) (acc : IsAcc n span width signed enable from wave)
+    (words : (c : ℕ) → c < n → InWord width signed (wave c)) (quiet : (c : ℕ) → c < n → c < span.start → enable c ≡ pos 0) (parts : IsPart enable from part) (acc : IsAcc n span width signed enable from wave)
   where
     -- before the first frame it stays as it began
     early : (c : ℕ) → c < n → c ≤ span.start → wave c ≡ pos 0
     early zero h low = acc.begins h
     early (suc c) h low =
         let e : suc c ≡ c + 1 = omega arith in
-        rw e (acc.keeps c (omega arith) (none-before span (span.length - 1) c (omega arith) (omega arith)) (quiet c (omega arith)) ∙ early c (omega arith) (omega arith))
+        rw e (acc.keeps c (omega arith) (none-before span (span.length - 1) c (omega arith) (omega arith)) (quiet c (omega arith) (omega arith)) ∙ early c (omega arith) (omega arith))
 
     at-start : (k : ℕ) → frame_start span k < n → wave (frame_start span k) ≡ pos 0
     at-start zero h = early (frame_start span zero) h (omega arith)

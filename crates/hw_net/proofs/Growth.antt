@@ -10,7 +10,7 @@ use Rattle.hw_net.specs.declared.netlist.Net.{Net}
 use Rattle.hw_net.specs.declared.netlist.NetOp.{NetOp}
 use Rattle.hw_net.specs.declared.netlist.NetOp.TheVariants.{Input, Const, Resize, ShiftUp, ShiftDown, Add, Subtract, Negate, Multiply, And, Or, Xor, Not, Less, Equal, Choose, Slice}
 use Rattle.hw_net.specs.declared.netlist.NetKind.{NetKind}
-use Rattle.hw_net.specs.declared.netlist.NetKind.TheVariants.{Comb, Reg, EnReg, Bridge, Unit, Counter}
+use Rattle.hw_net.specs.declared.netlist.NetKind.TheVariants.{Comb, Reg, EnReg, Acc, Bridge, Unit, Counter}
 use Rattle.hw_net.specs.Circuit.{Circuit}
 use Rattle.hw_net.specs.Frames.{IsCounter, frame_of, counted_frame, counter_of, CountersDiffer}
 use Rattle.hw_net.specs.Netlist.{IsKind, HasBits, HasParts, reads, reads_now}
@@ -124,6 +124,7 @@ kind-stays : (a b : Circuit) (cycles inputs width : ℕ) (signed : Bool) (kind :
 kind-stays a b cycles inputs width signed (Comb op args) p there has = (has.0, parts-stay a b inputs args op p there has.1)
 kind-stays a b cycles inputs width signed (Reg frame slot first from) p there has = (has.0, word-stays a b from width signed p has.1, has.2)
 kind-stays a b cycles inputs width signed (EnReg frame enable reset first from) p there has = (has.0, word-stays a b from width signed p has.1, has.2)
+kind-stays a b cycles inputs width signed (Acc frame enable from) p there has = (has.0, word-stays a b from width signed p has.1, has.2)
 kind-stays a b cycles inputs width signed (Bridge frame live from) p there has = (has.0, has.1, word-stays a b from width signed p has.2)
 kind-stays a b cycles inputs width signed (Unit left right) p there has = record {
   holds = λ one other e f. has.holds one other (stood-there a b left one p (there 0 0 (omega arith)) e) (stood-there a b right other p (there 1 0 (omega arith)) f);

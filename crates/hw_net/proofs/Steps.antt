@@ -7,7 +7,7 @@ use Rattle.std.proofs.lemmas.Bool.{cases_lt}
 use Rattle.math_num.specs.Word.{IsWord, IsWrapped}
 use Rattle.hw_net.specs.declared.netlist.Net.{Net}
 use Rattle.hw_net.specs.declared.netlist.NetKind.{NetKind}
-use Rattle.hw_net.specs.declared.netlist.NetKind.TheVariants.{Comb, Reg, EnReg, Bridge, Unit, Counter}
+use Rattle.hw_net.specs.declared.netlist.NetKind.TheVariants.{Comb, Reg, EnReg, Acc, Bridge, Unit, Counter}
 use Rattle.hw_net.specs.Operation.{given_by}
 use Rattle.hw_net.specs.Registers.{Wave, Span, IsLive, IsBridge, IsCounter}
 use Rattle.hw_net.specs.NetRows.{Inputs, Rows, NetShows, span_of, operands_at}
@@ -121,6 +121,12 @@ module _ (nets : List Net) (cycles many n : ℕ) (inputs : Inputs) (rows : Rows)
     takes = λ c h. (steps c h).takes;
     resets = λ c h. (steps c h).resets;
     stays = λ c h. (steps c h).stays;
+    keeps = λ c h. (steps c h).keeps;
+  }
+  net-shows k width signed (Acc frame enable from) word there has starts steps = record {
+    begins = starts;
+    clears = λ c h. (steps c h).clears;
+    adds = λ c h. (steps c h).adds;
     keeps = λ c h. (steps c h).keeps;
   }
   net-shows k width signed (Bridge frame live from) word there has starts steps =

@@ -7,7 +7,7 @@ use Rattle.std.proofs.lemmas.Nat.{pow-add, mod_below, mod-pow-add}
 use Rattle.math_num.specs.Word.{InWord, word_lowest}
 use Rattle.hw_net.specs.declared.netlist.Net.{Net}
 use Rattle.hw_net.specs.declared.netlist.NetKind.{NetKind}
-use Rattle.hw_net.specs.declared.netlist.NetKind.TheVariants.{Comb, Reg, EnReg, Bridge, Unit, Counter}
+use Rattle.hw_net.specs.declared.netlist.NetKind.TheVariants.{Comb, Reg, EnReg, Acc, Bridge, Unit, Counter}
 use Rattle.hw_net.specs.Circuit.{Circuit}
 use Rattle.hw_net.specs.Registers.{Span, Takes, IsLive}
 use Rattle.hw_net.specs.NetRows.{span_of}
@@ -73,6 +73,7 @@ module _ (nets : List Net) (cycles many : ℕ) where
   starts-in-word inputs row width signed (Comb op args) v has known is = is.in_word
   starts-in-word inputs row width signed (Reg frame slot first from) v has known is = rw is has.2
   starts-in-word inputs row width signed (EnReg frame enable reset first from) v has known is = rw is has.2
+  starts-in-word inputs row width signed (Acc frame enable from) v has known is = rw is has.2
   starts-in-word inputs row width signed (Bridge frame live from) v has known is = rw is (of-word nets row from width signed has.2 (known 0 0 (omega arith)))
   starts-in-word inputs row width signed (Unit left right) v has known is = is.in_word
   starts-in-word inputs row width signed (Counter frame) v has known is = rw is has.1
@@ -101,6 +102,14 @@ module _ (nets : List Net) (cycles many : ℕ) where
           | inr on ↦ rw (is.takes t on) (of-word nets now from width signed has.1 (before from))
         ]
         | inr t ↦ rw (is.keeps t) own
+      ]
+  steps-in-word clock inputs now next width signed (Acc frame enable from) old v has before own known is =
+      elim (takes-or-not (span_of cycles frame) ((span_of cycles frame).length - 1) clock) [
+        | inl t ↦ rw (is.clears t) has.2
+        | inr t ↦ elim (zero-or-not (now enable)) [
+          | inl off ↦ rw (is.keeps t off) own
+          | inr on ↦ (is.adds t on).in_word
+        ]
       ]
   steps-in-word clock inputs now next width signed (Bridge frame live from) old v has before own known is =
       elim (lives-or-not (span_of cycles frame) (live * cycles) (clock + 1)) [

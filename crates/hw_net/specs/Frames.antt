@@ -4,8 +4,8 @@ use Rattle.std.specs.Prelude.{IsSome, Bool, true, false, if◌then◌else◌}
 use Rattle.hw_net.specs.declared.netlist.Frame.{Frame}
 use Rattle.hw_net.specs.declared.netlist.Net.{Net}
 use Rattle.hw_net.specs.declared.netlist.NetKind.{NetKind}
-use Rattle.hw_net.specs.declared.netlist.NetKind.TheVariants.{Comb, Reg, EnReg, Bridge, Unit}
-use Rattle.hw_net.specs.declared.netlist.NetKind.TheVariants.{Counter}
+use Rattle.hw_net.specs.declared.netlist.NetKind.TheVariants.{Comb, Reg, EnReg, Acc, Bridge}
+use Rattle.hw_net.specs.declared.netlist.NetKind.TheVariants.{Unit, Counter}
 use Rattle.hw_net.specs.ByFrame.{is_same_frame}
 
 -- the frame that a register names
@@ -13,6 +13,7 @@ abbrev pub frame_of : NetKind → Option Frame
 frame_of (Comb op args) = None
 frame_of (Reg frame slot first from) = Some frame
 frame_of (EnReg frame enable reset first from) = Some frame
+frame_of (Acc frame enable from) = Some frame
 frame_of (Bridge frame live from) = Some frame
 frame_of (Unit left right) = None
 frame_of (Counter frame) = None
@@ -22,6 +23,7 @@ abbrev pub counted_frame : NetKind → Option Frame
 counted_frame (Comb op args) = None
 counted_frame (Reg frame slot first from) = None
 counted_frame (EnReg frame enable reset first from) = None
+counted_frame (Acc frame enable from) = None
 counted_frame (Bridge frame live from) = None
 counted_frame (Unit left right) = None
 counted_frame (Counter frame) = Some frame
@@ -66,6 +68,7 @@ abbrev pub is_register : NetKind → Bool
 is_register (Comb op args) = false
 is_register (Reg frame slot first from) = true
 is_register (EnReg frame enable reset first from) = true
+is_register (Acc frame enable from) = true
 is_register (Bridge frame live from) = true
 is_register (Unit left right) = false
 is_register (Counter frame) = false

@@ -6,12 +6,12 @@ use Rattle.math_num.specs.Word.{InWord, IsWrapped}
 use Rattle.hw_net.specs.declared.netlist.Frame.{Frame}
 use Rattle.hw_net.specs.declared.netlist.Net.{Net}
 use Rattle.hw_net.specs.declared.netlist.NetKind.{NetKind}
-use Rattle.hw_net.specs.declared.netlist.NetKind.TheVariants.{Comb, Reg, EnReg, Bridge, Unit}
-use Rattle.hw_net.specs.declared.netlist.NetKind.TheVariants.{Counter}
+use Rattle.hw_net.specs.declared.netlist.NetKind.TheVariants.{Comb, Reg, EnReg, Acc, Bridge}
+use Rattle.hw_net.specs.declared.netlist.NetKind.TheVariants.{Unit, Counter}
 use Rattle.hw_net.specs.Circuit.{Circuit}
 use Rattle.hw_net.specs.Netlist.{IsNetlist}
 use Rattle.hw_net.specs.Operation.{Operands, given_by}
-use Rattle.hw_net.specs.Registers.{Wave, Span, IsReg, IsEnReg, IsBridge, IsCounter}
+use Rattle.hw_net.specs.Registers.{Wave, Span, IsReg, IsEnReg, IsAcc, IsBridge, IsCounter}
 
 -- the numbers of the inputs at each clock, and of the nets
 abbrev pub Inputs : Type 0
@@ -48,6 +48,8 @@ NetShows cycles n inputs rows width signed (Reg frame slot first from) wave =
     IsReg n (span_of cycles frame) slot first (rows from) wave
 NetShows cycles n inputs rows width signed (EnReg frame enable reset first from) wave =
     IsEnReg n (span_of cycles frame) reset first (rows enable) (rows from) wave
+NetShows cycles n inputs rows width signed (Acc frame enable from) wave =
+    IsAcc n (span_of cycles frame) width signed (rows enable) (rows from) wave
 NetShows cycles n inputs rows width signed (Bridge frame live from) wave =
     IsBridge n (span_of cycles frame) (live * cycles) (rows from) wave
 NetShows cycles n inputs rows width signed (Unit left right) wave =

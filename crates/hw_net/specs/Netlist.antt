@@ -10,8 +10,8 @@ use Rattle.hw_net.specs.declared.netlist.NetOp.TheVariants.{ShiftDown, Add, Subt
 use Rattle.hw_net.specs.declared.netlist.NetOp.TheVariants.{Multiply, And, Or, Xor, Not, Less}
 use Rattle.hw_net.specs.declared.netlist.NetOp.TheVariants.{Equal, Choose, Slice}
 use Rattle.hw_net.specs.declared.netlist.NetKind.{NetKind}
-use Rattle.hw_net.specs.declared.netlist.NetKind.TheVariants.{Comb, Reg, EnReg, Bridge, Unit}
-use Rattle.hw_net.specs.declared.netlist.NetKind.TheVariants.{Counter}
+use Rattle.hw_net.specs.declared.netlist.NetKind.TheVariants.{Comb, Reg, EnReg, Acc, Bridge}
+use Rattle.hw_net.specs.declared.netlist.NetKind.TheVariants.{Unit, Counter}
 use Rattle.hw_net.specs.Circuit.{Circuit}
 use Rattle.hw_net.specs.Operation.{arity}
 
@@ -20,6 +20,7 @@ abbrev pub reads : NetKind → List ℕ
 reads (Comb op args) = args
 reads (Reg frame slot first from) = from ∷ []
 reads (EnReg frame enable reset first from) = enable ∷ from ∷ []
+reads (Acc frame enable from) = enable ∷ from ∷ []
 reads (Bridge frame live from) = from ∷ []
 reads (Unit left right) = left ∷ right ∷ []
 reads (Counter frame) = []
@@ -29,6 +30,7 @@ abbrev pub reads_now : NetKind → List ℕ
 reads_now (Comb op args) = args
 reads_now (Reg frame slot first from) = []
 reads_now (EnReg frame enable reset first from) = []
+reads_now (Acc frame enable from) = []
 reads_now (Bridge frame live from) = from ∷ []
 reads_now (Unit left right) = left ∷ right ∷ []
 reads_now (Counter frame) = []
@@ -73,7 +75,7 @@ HasParts nets inputs args Choose = ⊤
 HasParts nets inputs args (Slice high low) = HasBits nets args high low
 
 -- an operation has its arguments, a frame has clocks, a bridge lives, a register has the word of
--- what it takes, and a word holds every number that can come
+-- what it takes or adds, and a word holds every number that can come
 abbrev pub IsKind : List Net → ℕ → ℕ → ℕ → Bool → NetKind → Type 0
 IsKind nets cycles inputs width signed (Comb op args) =
     (length args ≡ arity op) × HasParts nets inputs args op
@@ -81,6 +83,8 @@ IsKind nets cycles inputs width signed (Reg frame slot first from) =
     (0 < frame.period) × HasWord nets from width signed × InWord width signed first
 IsKind nets cycles inputs width signed (EnReg frame enable reset first from) =
     (0 < frame.period) × HasWord nets from width signed × InWord width signed first
+IsKind nets cycles inputs width signed (Acc frame enable from) =
+    (0 < frame.period) × HasWord nets from width signed × InWord width signed (pos 0)
 IsKind nets cycles inputs width signed (Bridge frame live from) =
     (0 < frame.period) × (0 < live) × HasWord nets from width signed
 IsKind nets cycles inputs width signed (Unit left right) =

@@ -7,8 +7,8 @@ use Rattle.hw_net.specs.declared.netlist.NetOp.TheVariants.{ShiftDown, Add, Subt
 use Rattle.hw_net.specs.declared.netlist.NetOp.TheVariants.{Multiply, And, Or, Xor, Not, Less}
 use Rattle.hw_net.specs.declared.netlist.NetOp.TheVariants.{Equal, Choose, Slice}
 use Rattle.hw_net.specs.declared.netlist.NetKind.{NetKind}
-use Rattle.hw_net.specs.declared.netlist.NetKind.TheVariants.{Comb, Reg, EnReg, Bridge, Unit}
-use Rattle.hw_net.specs.declared.netlist.NetKind.TheVariants.{Counter}
+use Rattle.hw_net.specs.declared.netlist.NetKind.TheVariants.{Comb, Reg, EnReg, Acc, Bridge}
+use Rattle.hw_net.specs.declared.netlist.NetKind.TheVariants.{Unit, Counter}
 use Rattle.hw_net.specs.Circuit.{Circuit}
 
 -- 0 and so on, so many
@@ -34,6 +34,7 @@ abbrev pub unit_product : ℕ → NetKind → List Product
 unit_product width (Comb op args) = []
 unit_product width (Reg frame slot first from) = []
 unit_product width (EnReg frame enable reset first from) = []
+unit_product width (Acc frame enable from) = []
 unit_product width (Bridge frame live from) = []
 unit_product width (Unit left right) = record { left = left; right = right; width = width } ∷ []
 unit_product width (Counter frame) = []
@@ -63,6 +64,7 @@ abbrev pub comb_product : ℕ → NetKind → List Product
 comb_product width (Comb op args) = op_product width args op
 comb_product width (Reg frame slot first from) = []
 comb_product width (EnReg frame enable reset first from) = []
+comb_product width (Acc frame enable from) = []
 comb_product width (Bridge frame live from) = []
 comb_product width (Unit left right) = []
 comb_product width (Counter frame) = []

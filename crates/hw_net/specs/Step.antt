@@ -4,8 +4,8 @@ use Rattle.std.specs.Prelude.{◌*ℤ◌, slice_get, Some, Bool, true, false}
 use Rattle.math_num.specs.Word.{IsWrapped}
 use Rattle.hw_net.specs.declared.netlist.Net.{Net}
 use Rattle.hw_net.specs.declared.netlist.NetKind.{NetKind}
-use Rattle.hw_net.specs.declared.netlist.NetKind.TheVariants.{Comb, Reg, EnReg, Bridge, Unit}
-use Rattle.hw_net.specs.declared.netlist.NetKind.TheVariants.{Counter}
+use Rattle.hw_net.specs.declared.netlist.NetKind.TheVariants.{Comb, Reg, EnReg, Acc, Bridge}
+use Rattle.hw_net.specs.declared.netlist.NetKind.TheVariants.{Unit, Counter}
 use Rattle.hw_net.specs.Circuit.{Circuit}
 use Rattle.hw_net.specs.Operation.{given_by}
 use Rattle.hw_net.specs.Registers.{Span, Takes, IsLive}
@@ -27,6 +27,14 @@ pub record EnRegSteps (span : Span) (reset : Bool) (first : ℤ) (clock : ℕ)
   pub stays : Takes span (span.length - 1) clock → enable ≡ pos 0 → reset ≡ false → next ≡ now
   pub keeps : ¬ Takes span (span.length - 1) clock → next ≡ now
 
+-- an accumulator: 0 at the frame's end, and else one number more, cut to its word
+pub record AccSteps (span : Span) (width : ℕ) (signed : Bool) (clock : ℕ)
+    (enable from now next : ℤ) : Type 0 where
+  pub clears : Takes span (span.length - 1) clock → next ≡ pos 0
+  pub adds : ¬ Takes span (span.length - 1) clock → enable ≢ pos 0
+      → IsWrapped (now +ℤ from) width signed next
+  pub keeps : ¬ Takes span (span.length - 1) clock → enable ≡ pos 0 → next ≡ now
+
 pub record BridgeSteps (span : Span) (live clock : ℕ) (from now next : ℤ) : Type 0 where
   pub passes : IsLive span live clock → next ≡ from
   pub holds : ¬ IsLive span live clock → next ≡ now
@@ -41,6 +49,7 @@ NetStarts cycles inputs row width signed (Comb op args) v =
     IsWrapped (given_by op inputs (operands_at row args)) width signed v
 NetStarts cycles inputs row width signed (Reg frame slot first from) v = v ≡ first
 NetStarts cycles inputs row width signed (EnReg frame enable reset first from) v = v ≡ first
+NetStarts cycles inputs row width signed (Acc frame enable from) v = v ≡ pos 0
 NetStarts cycles inputs row width signed (Bridge frame live from) v = v ≡ row from
 NetStarts cycles inputs row width signed (Unit left right) v =
     IsWrapped (row left *ℤ row right) width signed v
@@ -56,6 +65,8 @@ NetSteps cycles clock inputs now next width signed (Reg frame slot first from) o
     RegSteps (span_of cycles frame) slot clock (now from) old v
 NetSteps cycles clock inputs now next width signed (EnReg frame enable reset first from) old v =
     EnRegSteps (span_of cycles frame) reset first clock (now enable) (now from) old v
+NetSteps cycles clock inputs now next width signed (Acc frame enable from) old v =
+    AccSteps (span_of cycles frame) width signed clock (now enable) (now from) old v
 NetSteps cycles clock inputs now next width signed (Bridge frame live from) old v =
     BridgeSteps (span_of cycles frame) (live * cycles) (clock + 1) (next from) old v
 NetSteps cycles clock inputs now next width signed (Unit left right) old v =

@@ -191,6 +191,7 @@ fn new_frame(counters: &FrameIndex, kind: &NetKind) -> Option<Frame>
         NetKind::Comb { .. }
         | NetKind::Reg { .. }
         | NetKind::EnReg { .. }
+        | NetKind::Acc { .. }
         | NetKind::Bridge { .. }
         | NetKind::Unit { .. } => None,
     }

@@ -54,6 +54,13 @@ pub enum NetKind {
         first: i128,
         from: u32,
     },
+    /// An accumulator, which adds `from` at each edge that ends a clock at which `enable` is not 0,
+    /// cut to its word. At the edge that ends the frame it takes 0 instead.
+    Acc {
+        frame: Frame,
+        enable: u32,
+        from: u32,
+    },
     /// `from` itself before its frame and in the first `live` base samples of each frame, and from
     /// then on to the frame's end what `from` had in the last clock of these.
     Bridge {

@@ -8,14 +8,14 @@ use Rattle.math_num.specs.Word.{IsWord, IsCongruent, IsWrapped}
 use Rattle.math_num.proofs.Arithmetic.{double, add-scaled, scaled-neg}
 use Rattle.hw_net.specs.declared.netlist.Net.{Net}
 use Rattle.hw_net.specs.declared.netlist.NetKind.{NetKind}
-use Rattle.hw_net.specs.declared.netlist.NetKind.TheVariants.{Comb, Reg, EnReg, Bridge, Unit, Counter}
+use Rattle.hw_net.specs.declared.netlist.NetKind.TheVariants.{Comb, Reg, EnReg, Acc, Bridge, Unit, Counter}
 use Rattle.hw_net.specs.Circuit.{Circuit}
 use Rattle.hw_net.specs.Operation.{given_by}
 use Rattle.math_num.specs.Bits.{low_bits}
 use Rattle.hw_net.specs.Registers.{Span, Takes, IsLive}
 use Rattle.hw_net.specs.NetRows.{Inputs, RowsAreThere, span_of, operands_at}
 use Rattle.hw_net.specs.Netlist.{IsNetlist, reads_now}
-use Rattle.hw_net.specs.Step.{Row, NetStarts, NetSteps, NetGoes, Goes, RegSteps, EnRegSteps, BridgeSteps, CounterSteps}
+use Rattle.hw_net.specs.Step.{Row, NetStarts, NetSteps, NetGoes, Goes, RegSteps, EnRegSteps, AccSteps, BridgeSteps, CounterSteps}
 use Rattle.math_num.proofs.Shifts.{remainder_congruent}
 use Rattle.math_list.proofs.Places.{held}
 use Rattle.hw_net.proofs.Words.{takes-or-not, lives-or-not, zero-or-not, some-or-none}
@@ -79,6 +79,7 @@ abbrev started : ℕ → Row → Row → ℕ → Bool → NetKind → ℤ
 started cycles inputs row width signed (Comb op args) = wrapped width signed (given_by op inputs (operands_at row args))
 started cycles inputs row width signed (Reg frame slot first from) = first
 started cycles inputs row width signed (EnReg frame enable reset first from) = first
+started cycles inputs row width signed (Acc frame enable from) = pos 0
 started cycles inputs row width signed (Bridge frame live from) = row from
 started cycles inputs row width signed (Unit left right) = wrapped width signed (row left *ℤ row right)
 started cycles inputs row width signed (Counter frame) = pos ((span_of cycles frame).start + (span_of cycles frame).length - 1)
@@ -88,6 +89,8 @@ stepped cycles clock inputs now next width signed (Comb op args) old = wrapped w
 stepped cycles clock inputs now next width signed (Reg frame slot first from) old = pick (takes-or-not (span_of cycles frame) slot clock) (now from) old
 stepped cycles clock inputs now next width signed (EnReg frame enable reset first from) old =
     pick (takes-or-not (span_of cycles frame) ((span_of cycles frame).length - 1) clock) (pick (zero-or-not (now enable)) (if reset then first else old) (now from)) old
+stepped cycles clock inputs now next width signed (Acc frame enable from) old =
+    pick (takes-or-not (span_of cycles frame) ((span_of cycles frame).length - 1) clock) (pos 0) (pick (zero-or-not (now enable)) old (wrapped width signed (old +ℤ now from)))
 stepped cycles clock inputs now next width signed (Bridge frame live from) old = pick (lives-or-not (span_of cycles frame) (live * cycles) (clock + 1)) (next from) old
 stepped cycles clock inputs now next width signed (Unit left right) old = wrapped width signed (next left *ℤ next right)
 stepped cycles clock inputs now next width signed (Counter frame) old = pick (some-or-none old) (pos ((span_of cycles frame).length - 1)) (old +ℤ negsuc 0)
@@ -101,6 +104,7 @@ starts : (cycles : ℕ) (inputs row : Row) (width : ℕ) (signed : Bool) (kind :
 starts cycles inputs row width signed (Comb op args) word = is-wrapped width signed (given_by op inputs (operands_at row args)) word
 starts cycles inputs row width signed (Reg frame slot first from) word = refl
 starts cycles inputs row width signed (EnReg frame enable reset first from) word = refl
+starts cycles inputs row width signed (Acc frame enable from) word = refl
 starts cycles inputs row width signed (Bridge frame live from) word = refl
 starts cycles inputs row width signed (Unit left right) word = is-wrapped width signed (row left *ℤ row right) word
 starts cycles inputs row width signed (Counter frame) word = refl
@@ -139,6 +143,15 @@ enabled-steps span reset first clock enable from now (inl t) (inr on) =
     }
 enabled-steps span reset first clock enable from now (inr t) off = record { takes = λ is. absurd (t is); resets = λ is. absurd (t is); stays = λ is. absurd (t is); keeps = λ _. refl }
 
+acc-steps : (span : Span) (width : ℕ) (signed : Bool) (clock : ℕ) (enable from now : ℤ) → IsWord width signed
+    → (is : Takes span (span.length - 1) clock ⊎ (¬ Takes span (span.length - 1) clock))
+    (off : (enable ≡ pos 0) ⊎ (enable ≢ pos 0))
+    → AccSteps span width signed clock enable from now (pick is (pos 0) (pick off now (wrapped width signed (now +ℤ from))))
+acc-steps span width signed clock enable from now word (inl t) off = record { clears = λ _. refl; adds = λ not. absurd (not t); keeps = λ not. absurd (not t) }
+acc-steps span width signed clock enable from now word (inr t) (inl off) = record { clears = λ is. absurd (t is); adds = λ _ on. absurd (on off); keeps = λ _ _. refl }
+acc-steps span width signed clock enable from now word (inr t) (inr on) =
+    record { clears = λ is. absurd (t is); adds = λ _ _. is-wrapped width signed (now +ℤ from) word; keeps = λ _ off. absurd (on off) }
+
 bridge-steps : (span : Span) (live clock : ℕ) (from now : ℤ) (is : IsLive span live clock ⊎ (¬ IsLive span live clock)) → BridgeSteps span live clock from now (pick is from now)
 bridge-steps span live clock from now (inl l) = record { passes = λ _. refl; holds = λ not. absurd (not l) }
 bridge-steps span live clock from now (inr l) = record { passes = λ is. absurd (l is); holds = λ _. refl }
@@ -153,6 +166,8 @@ steps cycles clock inputs now next width signed (Comb op args) old word = is-wra
 steps cycles clock inputs now next width signed (Reg frame slot first from) old word = reg-steps (span_of cycles frame) slot clock (now from) old (takes-or-not (span_of cycles frame) slot clock)
 steps cycles clock inputs now next width signed (EnReg frame enable reset first from) old word =
     enabled-steps (span_of cycles frame) reset first clock (now enable) (now from) old (takes-or-not (span_of cycles frame) ((span_of cycles frame).length - 1) clock) (zero-or-not (now enable))
+steps cycles clock inputs now next width signed (Acc frame enable from) old word =
+    acc-steps (span_of cycles frame) width signed clock (now enable) (now from) old word (takes-or-not (span_of cycles frame) ((span_of cycles frame).length - 1) clock) (zero-or-not (now enable))
 steps cycles clock inputs now next width signed (Bridge frame live from) old word =
     bridge-steps (span_of cycles frame) (live * cycles) (clock + 1) (next from) old
     (lives-or-not (span_of cycles frame) (live * cycles) (clock + 1))
@@ -171,6 +186,7 @@ started-same : (row other : Row) (cycles : ℕ) (inputs : Row) (width : ℕ) (si
 started-same row other cycles inputs width signed (Comb op args) agree = ap (λ of. wrapped width signed (given_by op inputs of)) (same-operands row other args agree)
 started-same row other cycles inputs width signed (Reg frame slot first from) agree = refl
 started-same row other cycles inputs width signed (EnReg frame enable reset first from) agree = refl
+started-same row other cycles inputs width signed (Acc frame enable from) agree = refl
 started-same row other cycles inputs width signed (Bridge frame live from) agree = agree 0 0 (omega arith)
 started-same row other cycles inputs width signed (Unit left right) agree =
     let a : row left ≡ other left = agree 0 0 (omega arith) in
@@ -183,6 +199,7 @@ stepped-same : (row other : Row) (cycles clock : ℕ) (inputs now : Row) (width 
 stepped-same row other cycles clock inputs now width signed (Comb op args) old agree = ap (λ of. wrapped width signed (given_by op inputs of)) (same-operands row other args agree)
 stepped-same row other cycles clock inputs now width signed (Reg frame slot first from) old agree = refl
 stepped-same row other cycles clock inputs now width signed (EnReg frame enable reset first from) old agree = refl
+stepped-same row other cycles clock inputs now width signed (Acc frame enable from) old agree = refl
 stepped-same row other cycles clock inputs now width signed (Bridge frame live from) old agree =
     ap (λ (z : ℤ). pick (lives-or-not (span_of cycles frame) (live * cycles) (clock + 1)) z old) (agree 0 0 (omega arith))
 stepped-same row other cycles clock inputs now width signed (Unit left right) old agree =

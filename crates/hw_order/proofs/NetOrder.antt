@@ -11,7 +11,7 @@ use Rattle.std.proofs.Math.Seq.{get_or-append_seam}
 use Rattle.std.proofs.lemmas.Option.{same_Some, slice_get_read, slice_get_within, get_or_from_slice_get}
 use Rattle.hw_net.specs.declared.netlist.Net.{Net}
 use Rattle.hw_net.specs.declared.netlist.NetKind.{NetKind}
-use Rattle.hw_net.specs.declared.netlist.NetKind.TheVariants.{Comb, Reg, EnReg, Bridge, Unit, Counter}
+use Rattle.hw_net.specs.declared.netlist.NetKind.TheVariants.{Comb, Reg, EnReg, Acc, Bridge, Unit, Counter}
 use Rattle.hw_net.specs.Netlist.{reads, reads_now, IsRanked}
 use Rattle.hw_order.specs.Order.{IsOrder}
 use Rattle.math_list.proofs.Places.{held, slice_get_inside}
@@ -292,6 +292,7 @@ pub now-there : (bound : ℕ) (kind : NetKind) → All (λ read. read < bound) (
 now-there bound (Comb op args) all = all
 now-there bound (Reg frame slot first from) all = λ k d h. absurd (omega arith)
 now-there bound (EnReg frame enable reset first from) all = λ k d h. absurd (omega arith)
+now-there bound (Acc frame enable from) all = λ k d h. absurd (omega arith)
 now-there bound (Bridge frame live from) all = all
 now-there bound (Unit left right) all = all
 now-there bound (Counter frame) all = λ k d h. absurd (omega arith)

@@ -4,7 +4,7 @@ use Rattle.std.proofs.Common.{subst, arith, refl}
 use Rattle.math_num.specs.Word.{IsWrapped}
 use Rattle.hw_net.specs.declared.netlist.Net.{Net}
 use Rattle.hw_net.specs.declared.netlist.NetKind.{NetKind}
-use Rattle.hw_net.specs.declared.netlist.NetKind.TheVariants.{Comb, Reg, EnReg, Bridge, Unit, Counter}
+use Rattle.hw_net.specs.declared.netlist.NetKind.TheVariants.{Comb, Reg, EnReg, Acc, Bridge, Unit, Counter}
 use Rattle.hw_net.specs.Operation.{Operands, given_by}
 use Rattle.hw_net.specs.Netlist.{reads_now}
 use Rattle.hw_net.specs.NetRows.{number_at, operands_at, span_of}
@@ -36,6 +36,7 @@ module _ (row other : Row) where
   starts-same cycles inputs width signed (Comb op args) v agree h = subst (λ (of : Operands). IsWrapped (given_by op inputs of) width signed v) (same-operands args agree) h
   starts-same cycles inputs width signed (Reg frame slot first from) v agree h = h
   starts-same cycles inputs width signed (EnReg frame enable reset first from) v agree h = h
+  starts-same cycles inputs width signed (Acc frame enable from) v agree h = h
   starts-same cycles inputs width signed (Bridge frame live from) v agree h = h ∙ agree 0 0 (omega arith)
   starts-same cycles inputs width signed (Unit left right) v agree h =
       let a : row left ≡ other left = agree 0 0 (omega arith) in
@@ -49,6 +50,7 @@ module _ (row other : Row) where
   steps-same cycles clock inputs now width signed (Comb op args) old v agree h = subst (λ (of : Operands). IsWrapped (given_by op inputs of) width signed v) (same-operands args agree) h
   steps-same cycles clock inputs now width signed (Reg frame slot first from) old v agree h = h
   steps-same cycles clock inputs now width signed (EnReg frame enable reset first from) old v agree h = h
+  steps-same cycles clock inputs now width signed (Acc frame enable from) old v agree h = h
   steps-same cycles clock inputs now width signed (Bridge frame live from) old v agree h =
       subst (λ (z : ℤ). BridgeSteps (span_of cycles frame) (live * cycles) (clock + 1) z old v)
       (agree 0 0 (omega arith)) h

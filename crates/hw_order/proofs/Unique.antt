@@ -1,5 +1,5 @@
 -- Two functions that are rows of one netlist under the same inputs are one.
-use Rattle.std.proofs.Common.{◌≡◌, ℕ, zero, suc, ◌+◌, ◌-◌, ◌*◌, ◌%◌, ◌<◌, inl, inr, Bool, length, Option, None, Some, slice_get, slice_index_or, List, All, ℤ, sym, ◌∙◌, subst, arith, refl}
+use Rattle.std.proofs.Common.{◌≡◌, ℕ, zero, suc, ◌+◌, ◌-◌, ◌*◌, ◌%◌, ◌<◌, inl, inr, Bool, length, Option, None, Some, slice_get, slice_index_or, List, All, ℤ, ◌+ℤ◌, sym, ◌∙◌, subst, arith, refl}
 use Rattle.std.proofs.lemmas.Int.{ints}
 use Rattle.std.proofs.lemmas.Nat.{mul-lt}
 use Rattle.std.proofs.lemmas.Bool.{cases_Bool, cases_lt}
@@ -8,10 +8,10 @@ use Rattle.math_num.proofs.Residues.{one-wrapped}
 use Rattle.hw_net.proofs.Words.{takes-or-not, zero-or-not}
 use Rattle.hw_net.specs.declared.netlist.Net.{Net}
 use Rattle.hw_net.specs.declared.netlist.NetKind.{NetKind}
-use Rattle.hw_net.specs.declared.netlist.NetKind.TheVariants.{Comb, Reg, EnReg, Bridge, Unit, Counter}
+use Rattle.hw_net.specs.declared.netlist.NetKind.TheVariants.{Comb, Reg, EnReg, Acc, Bridge, Unit, Counter}
 use Rattle.hw_net.specs.Circuit.{Circuit}
 use Rattle.hw_net.specs.Operation.{Operands, given_by}
-use Rattle.hw_net.specs.Registers.{Wave, Span, IsReg, IsEnReg, IsBridge, IsCounter}
+use Rattle.hw_net.specs.Registers.{Wave, Span, IsReg, IsEnReg, IsAcc, IsBridge, IsCounter}
 use Rattle.hw_net.specs.NetRows.{Inputs, Rows, NetRows, NetShows, RowsAreOne, span_of, operands_at}
 use Rattle.hw_net.specs.Netlist.{IsNetlist, IsKind, reads, reads_now}
 use Rattle.math_list.proofs.Places.{held as at-place, slice_get_inside}
@@ -48,6 +48,24 @@ module _ (n : ℕ) (span : Span) where
         | inr t ↦ p.keeps c below t ∙ own c (omega arith) ∙ sym (q.keeps c below t)
       ])
 
+  same-acc : (width : ℕ) (signed : Bool) (enable from wave allow of other : Wave) → IsWord width signed → IsAcc n span width signed enable from wave → IsAcc n span width signed allow of other
+      → (c : ℕ) → c < n → ((b : ℕ) → b < c → enable b ≡ allow b) → ((b : ℕ) → b < c → from b ≡ of b) → ((b : ℕ) → b < c → wave b ≡ other b) → wave c ≡ other c
+  same-acc width signed enable from wave allow of other word p q zero h gates feeds own = p.begins h ∙ sym (q.begins h)
+  same-acc width signed enable from wave allow of other word p q (suc c) h gates feeds own =
+      let e : suc c ≡ c + 1 = omega arith in
+      let below : c + 1 < n = omega arith in
+      let gate : enable c ≡ allow c = gates c (omega arith) in
+      let feed : from c ≡ of c = feeds c (omega arith) in
+      let same : wave c ≡ other c = own c (omega arith) in
+      rw e (elim (takes-or-not span (span.length - 1) c) [
+        | inl t ↦ p.clears c below t ∙ sym (q.clears c below t)
+        | inr t ↦ elim (zero-or-not (enable c)) [
+          | inl off ↦ p.keeps c below t off ∙ same ∙ sym (q.keeps c below t (sym gate ∙ off))
+          | inr on ↦ one-wrapped (other c +ℤ of c) width signed (wave (c + 1)) (other (c + 1)) word
+              (rw (← same, ← feed) (p.adds c below t on)) (q.adds c below t (λ z. on (gate ∙ z)))
+        ]
+      ])
+
   same-bridge : (live : ℕ) (from wave of other : Wave) → 0 < live → IsBridge n span live from wave → IsBridge n span live of other
       → (c : ℕ) → c < n → ((b : ℕ) → b < c → from b ≡ of b) → from c ≡ of c → wave c ≡ other c
   same-bridge live from wave of other some p q c h feeds now =
@@ -82,6 +100,9 @@ module _ (nets : List Net) (cycles many n bound : ℕ) (inputs : Inputs) (rows o
       same-reg n (span_of cycles frame) slot first (rows from) (rows k) (other from) (other k) p q c h (λ b less. before from b (there 0 0 (omega arith)) less) (λ b less. before k b inside less)
   same-net k width signed (EnReg frame enable reset first from) word has there inside p q c h before now =
       same-enabled n (span_of cycles frame) reset first (rows enable) (rows from) (rows k) (other enable) (other from) (other k) p q c h
+      (λ b less. before enable b (there 0 0 (omega arith)) less) (λ b less. before from b (there 1 0 (omega arith)) less) (λ b less. before k b inside less)
+  same-net k width signed (Acc frame enable from) word has there inside p q c h before now =
+      same-acc n (span_of cycles frame) width signed (rows enable) (rows from) (rows k) (other enable) (other from) (other k) word p q c h
       (λ b less. before enable b (there 0 0 (omega arith)) less) (λ b less. before from b (there 1 0 (omega arith)) less) (λ b less. before k b inside less)
   same-net k width signed (Bridge frame live from) word has there inside p q c h before now =
       same-bridge n (span_of cycles frame) (live * cycles) (rows from) (rows k) (other from) (other k) (mul-lt 0 0 live cycles has.1 some) p q c h

@@ -43,7 +43,10 @@ fn link_net(readers: &mut [Sizes], one: &Net, reader: u32) -> Result<(), OutOfMe
         NetKind::Comb { op: _, args } => link_all(readers, args.as_slice(), reader),
         NetKind::Bridge { from, .. } => link_all(readers, &[*from], reader),
         NetKind::Unit { left, right } => link_all(readers, &[*left, *right], reader),
-        NetKind::Reg { .. } | NetKind::EnReg { .. } | NetKind::Counter { .. } => Ok(()),
+        NetKind::Reg { .. }
+        | NetKind::EnReg { .. }
+        | NetKind::Acc { .. }
+        | NetKind::Counter { .. } => Ok(()),
     }
 }
 
@@ -83,7 +86,10 @@ fn is_ready(ranks: &[Option<u32>], one: &Net) -> bool
         NetKind::Comb { op: _, args } => all_placed(ranks, args.as_slice()),
         NetKind::Bridge { from, .. } => all_placed(ranks, &[*from]),
         NetKind::Unit { left, right } => all_placed(ranks, &[*left, *right]),
-        NetKind::Reg { .. } | NetKind::EnReg { .. } | NetKind::Counter { .. } => true,
+        NetKind::Reg { .. }
+        | NetKind::EnReg { .. }
+        | NetKind::Acc { .. }
+        | NetKind::Counter { .. } => true,
     }
 }
 

@@ -1,10 +1,10 @@
 -- A netlist without the nets that nothing reaches stands in the place of what it was made from.
-use Rattle.std.proofs.Common.{◌≡◌, ℕ, zero, suc, ◌+◌, ◌-◌, ◌*◌, ◌%◌, ◌<◌, Bool, List, [], ◌∷◌, map, Contains, Some, slice_get, refl, ap, sym, ◌∙◌, subst, arith, ◌*ℤ◌}
+use Rattle.std.proofs.Common.{◌≡◌, ℕ, zero, suc, ◌+◌, ◌-◌, ◌*◌, ◌%◌, ◌<◌, Bool, List, [], ◌∷◌, map, Contains, Some, slice_get, refl, ap, sym, ◌∙◌, subst, arith, ℤ, ◌+ℤ◌, ◌*ℤ◌}
 use Rattle.std.proofs.Math.Nat.{mod-le}
 use Rattle.math_num.specs.Word.{InWord, IsWrapped}
 use Rattle.hw_net.specs.declared.netlist.NetPort.{NetPort}
 use Rattle.hw_net.specs.declared.netlist.NetKind.{NetKind}
-use Rattle.hw_net.specs.declared.netlist.NetKind.TheVariants.{Comb, Reg, EnReg, Bridge, Unit, Counter}
+use Rattle.hw_net.specs.declared.netlist.NetKind.TheVariants.{Comb, Reg, EnReg, Acc, Bridge, Unit, Counter}
 use Rattle.hw_net.specs.Circuit.{Circuit}
 use Rattle.hw_net.specs.Netlist.{IsNetlist, reads}
 use Rattle.hw_net.specs.NetRows.{Inputs, Rows, NetRows, NetShows, RowsAreOne, RowsAreThere, number_at, operands_at, span_of}
@@ -51,6 +51,13 @@ module _ (place : ℕ → ℕ) (n : ℕ) (whole rows : Rows) where
     resets = λ c below t off r. h.resets c below t (same enable (0, omega arith, refl) c (omega (arith, below)) ∙ off) r;
     stays = λ c below t off r. h.stays c below t (same enable (0, omega arith, refl) c (omega (arith, below)) ∙ off) r;
     keeps = h.keeps;
+  }
+  shows-over cycles inputs w s (Acc frame enable from) wave same h = record {
+    begins = h.begins;
+    clears = h.clears;
+    adds = λ c below t on. subst (λ (v : ℤ). IsWrapped (wave c +ℤ v) w s (wave (c + 1))) (same from (1, omega arith, refl) c (omega (arith, below)))
+        (h.adds c below t (λ e. on (sym (same enable (0, omega arith, refl) c (omega (arith, below))) ∙ e)));
+    keeps = λ c below t off. h.keeps c below t (same enable (0, omega arith, refl) c (omega (arith, below)) ∙ off);
   }
   shows-over cycles inputs w s (Bridge frame live from) wave same h = record {
     before = λ c below early. h.before c below early ∙ same from (0, omega arith, refl) c below;

@@ -1,6 +1,6 @@
 -- A netlist whose nets read others that show the same stands in the place of what it was made from.
 use Rattle.std.proofs.Common.{◌≡◌, ◌⊎◌, inl, inr, ℕ, zero, suc, ◌+◌, ◌-◌, ◌%◌, ◌<◌, Bool, List, [], ◌∷◌, ◌++◌, map, flat_map, length, Contains, slice_get, get_or, refl, ap, sym, ◌∙◌, subst, arith, ℤ}
-use Rattle.std.proofs.Common.{◌*ℤ◌}
+use Rattle.std.proofs.Common.{◌+ℤ◌, ◌*ℤ◌}
 use Rattle.std.specs.List.{AllZip}
 use Rattle.std.specs.Prelude.{⊤}
 use Rattle.std.proofs.Math.Nat.{mod-le}
@@ -12,13 +12,13 @@ use Rattle.hw_net.specs.declared.netlist.NetPort.{NetPort}
 use Rattle.hw_net.specs.declared.netlist.NetOp.{NetOp}
 use Rattle.hw_net.specs.declared.netlist.NetOp.TheVariants.{Input, Const, Resize, ShiftUp, ShiftDown, Add, Subtract, Negate, Multiply, And, Or, Xor, Not, Less, Equal, Choose, Slice}
 use Rattle.hw_net.specs.declared.netlist.NetKind.{NetKind}
-use Rattle.hw_net.specs.declared.netlist.NetKind.TheVariants.{Comb, Reg, EnReg, Bridge, Unit, Counter}
+use Rattle.hw_net.specs.declared.netlist.NetKind.TheVariants.{Comb, Reg, EnReg, Acc, Bridge, Unit, Counter}
 use Rattle.hw_net.specs.Circuit.{Circuit}
 use Rattle.hw_net.specs.Netlist.{reads}
 use Rattle.hw_net.specs.NetRows.{Inputs, Rows, NetRows, NetShows, number_at, operands_at, span_of}
 use Rattle.hw_net.specs.Operation.{Operands, given_by}
 use Rattle.hw_net.specs.Products.{Product, comb_product, net_at, op_product, places, products_of, unit_product}
-use Rattle.hw_net.specs.Registers.{IsBridge, IsEnReg, IsReg, Span, Wave}
+use Rattle.hw_net.specs.Registers.{IsAcc, IsBridge, IsEnReg, IsReg, Span, Wave}
 use Rattle.hw_refine.specs.Refines.{Agree, IsReadBy, KeepsLabel, KeepsRegister, Refines, face, held, held_count}
 use Rattle.hw_refine.specs.Redirects.{IsRedirected, IsReported, RedirectsRefine, Redirects, redirected}
 use Rattle.hw_refine.proofs.Lists.{combs-in, products-are, units-in}
@@ -36,6 +36,7 @@ module _ (root : ℕ → ℕ) (Q : ℕ → ℕ → Type 0) (own : (k : ℕ) → 
   unit-own w v (Comb op args) = tt
   unit-own w v (Reg frame slot first from) = tt
   unit-own w v (EnReg frame enable reset first from) = tt
+  unit-own w v (Acc frame enable from) = tt
   unit-own w v (Bridge frame live from) = tt
   unit-own w v (Unit left right) = ((own left, own right), tt)
   unit-own w v (Counter frame) = tt
@@ -44,6 +45,7 @@ module _ (root : ℕ → ℕ) (Q : ℕ → ℕ → Type 0) (own : (k : ℕ) → 
   unit-moved w v (Comb op args) = tt
   unit-moved w v (Reg frame slot first from) = tt
   unit-moved w v (EnReg frame enable reset first from) = tt
+  unit-moved w v (Acc frame enable from) = tt
   unit-moved w v (Bridge frame live from) = tt
   unit-moved w v (Unit left right) = ((moved left, moved right), tt)
   unit-moved w v (Counter frame) = tt
@@ -95,6 +97,7 @@ module _ (root : ℕ → ℕ) (Q : ℕ → ℕ → Type 0) (own : (k : ℕ) → 
   comb-own w v (Comb op args) = op-own w v args op
   comb-own w v (Reg frame slot first from) = tt
   comb-own w v (EnReg frame enable reset first from) = tt
+  comb-own w v (Acc frame enable from) = tt
   comb-own w v (Bridge frame live from) = tt
   comb-own w v (Unit left right) = tt
   comb-own w v (Counter frame) = tt
@@ -103,6 +106,7 @@ module _ (root : ℕ → ℕ) (Q : ℕ → ℕ → Type 0) (own : (k : ℕ) → 
   comb-moved w v (Comb op args) = op-moved w v args op
   comb-moved w v (Reg frame slot first from) = tt
   comb-moved w v (EnReg frame enable reset first from) = tt
+  comb-moved w v (Acc frame enable from) = tt
   comb-moved w v (Bridge frame live from) = tt
   comb-moved w v (Unit left right) = tt
   comb-moved w v (Counter frame) = tt
@@ -134,6 +138,7 @@ module _ (root : ℕ → ℕ) where
   held-same (Comb op args) = refl
   held-same (Reg frame slot first from) = refl
   held-same (EnReg frame enable reset first from) = refl
+  held-same (Acc frame enable from) = refl
   held-same (Bridge frame live from) = refl
   held-same (Unit left right) = refl
   held-same (Counter frame) = refl
@@ -162,6 +167,7 @@ module _ (root : ℕ → ℕ) where
   reads-moved (Comb op args) = refl
   reads-moved (Reg frame slot first from) = refl
   reads-moved (EnReg frame enable reset first from) = refl
+  reads-moved (Acc frame enable from) = refl
   reads-moved (Bridge frame live from) = refl
   reads-moved (Unit left right) = refl
   reads-moved (Counter frame) = refl
@@ -196,6 +202,17 @@ module _ (root : ℕ → ℕ) (n : ℕ) (rows : Rows) (same : (k : ℕ) → Agre
     keeps = h.keeps;
   }
 
+  acc-back : (span : Span) (w : ℕ) (s : Bool) (enable from : ℕ) (wave : Wave)
+      → IsAcc n span w s (rows (root enable)) (rows (root from)) wave
+      → IsAcc n span w s (rows enable) (rows from) wave
+  acc-back span w s enable from wave h = record {
+    begins = h.begins;
+    clears = h.clears;
+    adds = λ c below t on. subst (λ (v : ℤ). IsWrapped (wave c +ℤ v) w s (wave (c + 1))) (sym (same from c (omega (arith, below))))
+        (h.adds c below t (λ e. on (same enable c (omega (arith, below)) ∙ e)));
+    keeps = λ c below t off. h.keeps c below t (sym (same enable c (omega (arith, below))) ∙ off);
+  }
+
   bridge-back : (span : Span) (live from : ℕ) (wave : Wave) → IsBridge n span live (rows (root from)) wave → IsBridge n span live (rows from) wave
   bridge-back span live from wave h = record {
     before = λ c below early. h.before c below early ∙ sym (same from c below);
@@ -210,6 +227,7 @@ module _ (root : ℕ → ℕ) (n : ℕ) (rows : Rows) (same : (k : ℕ) → Agre
   shows-back cycles inputs w s (Comb op args) wave h = λ c below. subst (λ (o : Operands). IsWrapped (given_by op (λ number. inputs number c) o) w s (wave c)) (operands-same c below args) (h c below)
   shows-back cycles inputs w s (Reg frame slot first from) wave h = reg-back (span_of cycles frame) slot first from wave h
   shows-back cycles inputs w s (EnReg frame enable reset first from) wave h = enreg-back (span_of cycles frame) reset first enable from wave h
+  shows-back cycles inputs w s (Acc frame enable from) wave h = acc-back (span_of cycles frame) w s enable from wave h
   shows-back cycles inputs w s (Bridge frame live from) wave h = bridge-back (span_of cycles frame) _ from wave h
   shows-back cycles inputs w s (Unit left right) wave h = λ c below. h c below ∙ (let a = same left c below in let b = same right c below in λ i. sym a i *ℤ sym b i)
   shows-back cycles inputs w s (Counter frame) wave h = h

@@ -4,7 +4,7 @@ use Rattle.math_num.specs.Word.{InWord, IsWrapped}
 use Rattle.hw_net.specs.declared.netlist.Net.{Net}
 use Rattle.hw_net.specs.declared.netlist.NetPort.{NetPort}
 use Rattle.hw_net.specs.declared.netlist.NetKind.{NetKind}
-use Rattle.hw_net.specs.declared.netlist.NetKind.TheVariants.{Comb, Reg, EnReg, Bridge, Unit, Counter}
+use Rattle.hw_net.specs.declared.netlist.NetKind.TheVariants.{Comb, Reg, EnReg, Acc, Bridge, Unit, Counter}
 use Rattle.hw_net.specs.Circuit.{Circuit}
 use Rattle.hw_net.specs.NetRows.{Inputs, Rows, NetRows, NetShows, number_at, operands_at}
 use Rattle.hw_net.specs.Operation.{Operands, given_by}
@@ -34,6 +34,7 @@ module _ (root : ℕ → ℕ) (rows : Rows) where
   shows-of cycles n inputs w s (Comb op args) wave h = λ c below. subst (λ (o : Operands). IsWrapped (given_by op (λ number. inputs number c) o) w s (wave c)) (operands-of c args) (h c below)
   shows-of cycles n inputs w s (Reg frame slot first from) wave h = h
   shows-of cycles n inputs w s (EnReg frame enable reset first from) wave h = h
+  shows-of cycles n inputs w s (Acc frame enable from) wave h = h
   shows-of cycles n inputs w s (Bridge frame live from) wave h = h
   shows-of cycles n inputs w s (Unit left right) wave h = h
   shows-of cycles n inputs w s (Counter frame) wave h = h

@@ -9,7 +9,7 @@ use Rattle.hw_net.specs.declared.netlist.Net.{Net}
 use Rattle.hw_net.specs.declared.netlist.NetOp.{NetOp}
 use Rattle.hw_net.specs.declared.netlist.NetOp.TheVariants.{Input, Const, Resize, ShiftUp, ShiftDown, Add, Subtract, Negate, Multiply, And, Or, Xor, Not, Less, Equal, Choose, Slice}
 use Rattle.hw_net.specs.declared.netlist.NetKind.{NetKind}
-use Rattle.hw_net.specs.declared.netlist.NetKind.TheVariants.{Comb, Reg, EnReg, Bridge, Unit, Counter}
+use Rattle.hw_net.specs.declared.netlist.NetKind.TheVariants.{Comb, Reg, EnReg, Acc, Bridge, Unit, Counter}
 use Rattle.hw_net.specs.Frames.{counted_frame, counter_from, counter_of, is_frame}
 use Rattle.hw_net.specs.Netlist.{IsKind, reads, reads_now}
 use Rattle.hw_net.specs.Operation.{arity}
@@ -63,6 +63,7 @@ pub now-read : (kind : NetKind) (read : ℕ) → Contains (reads_now kind) read 
 now-read (Comb op args) read c = c
 now-read (Reg frame slot first from) read c = absurd (let a = c.1 in omega (arith, a))
 now-read (EnReg frame enable reset first from) read c = absurd (let a = c.1 in omega (arith, a))
+now-read (Acc frame enable from) read c = absurd (let a = c.1 in omega (arith, a))
 now-read (Bridge frame live from) read c = c
 now-read (Unit left right) read c = c
 now-read (Counter frame) read c = absurd (let a = c.1 in omega (arith, a))
@@ -71,6 +72,7 @@ pub held-moved : (place : ℕ → ℕ) (kind : NetKind) → held (redirected pla
 held-moved place (Comb op args) = refl
 held-moved place (Reg frame slot first from) = refl
 held-moved place (EnReg frame enable reset first from) = refl
+held-moved place (Acc frame enable from) = refl
 held-moved place (Bridge frame live from) = refl
 held-moved place (Unit left right) = refl
 held-moved place (Counter frame) = refl
@@ -89,6 +91,7 @@ module _ (place : ℕ → ℕ) (Q : ℕ → ℕ → Type 0) where
   unit-zip w v (Comb op args) on = tt
   unit-zip w v (Reg frame slot first from) on = tt
   unit-zip w v (EnReg frame enable reset first from) on = tt
+  unit-zip w v (Acc frame enable from) on = tt
   unit-zip w v (Bridge frame live from) on = tt
   unit-zip w v (Unit left right) on = ((on left (0, omega arith, refl), on right (1, omega arith, refl)), tt)
   unit-zip w v (Counter frame) on = tt
@@ -126,6 +129,7 @@ module _ (place : ℕ → ℕ) (Q : ℕ → ℕ → Type 0) where
   comb-zip w v nets cycles inputs u s (Comb op args) is on = op-zip w v args op is.0 on
   comb-zip w v nets cycles inputs u s (Reg frame slot first from) is on = tt
   comb-zip w v nets cycles inputs u s (EnReg frame enable reset first from) is on = tt
+  comb-zip w v nets cycles inputs u s (Acc frame enable from) is on = tt
   comb-zip w v nets cycles inputs u s (Bridge frame live from) is on = tt
   comb-zip w v nets cycles inputs u s (Unit left right) is on = tt
   comb-zip w v nets cycles inputs u s (Counter frame) is on = tt

@@ -12,7 +12,7 @@ use Rattle.hw_net.specs.declared.netlist.NetPort.{NetPort}
 use Rattle.hw_net.specs.declared.netlist.NetOp.{NetOp}
 use Rattle.hw_net.specs.declared.netlist.NetOp.TheVariants.{Input, Const, Resize, ShiftUp, ShiftDown, Add, Subtract, Negate, Multiply, And, Or, Xor, Not, Less, Equal, Choose, Slice}
 use Rattle.hw_net.specs.declared.netlist.NetKind.{NetKind}
-use Rattle.hw_net.specs.declared.netlist.NetKind.TheVariants.{Comb, Reg, EnReg, Bridge, Unit, Counter}
+use Rattle.hw_net.specs.declared.netlist.NetKind.TheVariants.{Comb, Reg, EnReg, Acc, Bridge, Unit, Counter}
 use Rattle.hw_net.specs.Circuit.{Circuit}
 use Rattle.hw_net.specs.Emittable.{ArePorts, AreLabels, IsEmittable, IsPortName, IsPeriod, IsLabelName, most_latency}
 use Rattle.hw_net.specs.Frames.{counted_frame, counter_from, counter_of, frame_of, is_frame}
@@ -34,6 +34,7 @@ module _ (place : ℕ → ℕ) where
   reads-moved (Comb op args) = refl
   reads-moved (Reg frame slot first from) = refl
   reads-moved (EnReg frame enable reset first from) = refl
+  reads-moved (Acc frame enable from) = refl
   reads-moved (Bridge frame live from) = refl
   reads-moved (Unit left right) = refl
   reads-moved (Counter frame) = refl
@@ -42,6 +43,7 @@ module _ (place : ℕ → ℕ) where
   reads-now-moved (Comb op args) = refl
   reads-now-moved (Reg frame slot first from) = refl
   reads-now-moved (EnReg frame enable reset first from) = refl
+  reads-now-moved (Acc frame enable from) = refl
   reads-now-moved (Bridge frame live from) = refl
   reads-now-moved (Unit left right) = refl
   reads-now-moved (Counter frame) = refl
@@ -50,6 +52,7 @@ module _ (place : ℕ → ℕ) where
   frame-moved (Comb op args) = refl
   frame-moved (Reg frame slot first from) = refl
   frame-moved (EnReg frame enable reset first from) = refl
+  frame-moved (Acc frame enable from) = refl
   frame-moved (Bridge frame live from) = refl
   frame-moved (Unit left right) = refl
   frame-moved (Counter frame) = refl
@@ -58,6 +61,7 @@ module _ (place : ℕ → ℕ) where
   counted-moved (Comb op args) = refl
   counted-moved (Reg frame slot first from) = refl
   counted-moved (EnReg frame enable reset first from) = refl
+  counted-moved (Acc frame enable from) = refl
   counted-moved (Bridge frame live from) = refl
   counted-moved (Unit left right) = refl
   counted-moved (Counter frame) = refl
@@ -172,6 +176,7 @@ module _ (old : Circuit) (place : ℕ → ℕ) (kept : List ℕ) (can : CanStay 
     kind-moved w s (Comb op args) st below h = (length-map args place ∙ h.0, parts-moved args op st below h.1)
     kind-moved w s (Reg frame slot first from) st below h = (h.0, word-moved from w s (st from (0, omega arith, refl)) h.1, h.2)
     kind-moved w s (EnReg frame enable reset first from) st below h = (h.0, word-moved from w s (st from (1, omega arith, refl)) h.1, h.2)
+    kind-moved w s (Acc frame enable from) st below h = (h.0, word-moved from w s (st from (1, omega arith, refl)) h.1, h.2)
     kind-moved w s (Bridge frame live from) st below h = (h.0, h.1, word-moved from w s (st from (0, omega arith, refl)) h.2)
     kind-moved w s (Unit left right) st below h =
         holds-moved left right w s (st left (0, omega arith, refl)) (st right (1, omega arith, refl))

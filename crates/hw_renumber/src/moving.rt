@@ -57,6 +57,15 @@ fn moved_kind(alloc: Global, kind: &NetKind, places: &[u32]) -> Result<NetKind, 
             first: *first,
             from: places[*from as usize],
         }),
+        NetKind::Acc {
+            frame,
+            enable,
+            from,
+        } => Ok(NetKind::Acc {
+            frame: *frame,
+            enable: places[*enable as usize],
+            from: places[*from as usize],
+        }),
         NetKind::Bridge { frame, live, from } => Ok(NetKind::Bridge {
             frame: *frame,
             live: *live,

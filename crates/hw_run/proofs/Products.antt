@@ -1,5 +1,5 @@
 -- A word has the products of the numbers of two words exactly where it has those of their ends.
-use Rattle.std.proofs.Common.{◌≡◌, ℕ, suc, ◌*◌, ◌≤◌, Bool, ℤ, pos, negsuc, ◌*ℤ◌, ◌≤ℤ◌, sym, ◌∙◌, arith, ◌-◌, true, false, List, Some, slice_get, subst}
+use Rattle.std.proofs.Common.{◌≡◌, ℕ, suc, Bool, ℤ, pos, negsuc, ◌*ℤ◌, ◌≤ℤ◌, sym, ◌∙◌, arith, true, false, List, Some, slice_get, subst}
 use Rattle.std.proofs.lemmas.Int.{ints}
 use Rattle.std.proofs.Math.IntN.{*ℤ_comm, *ℤ-negsuc}
 use Rattle.std.proofs.lemmas.Option.{same_Some}

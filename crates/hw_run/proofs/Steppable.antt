@@ -5,7 +5,7 @@ use Rattle.hw_net.specs.declared.netlist.Net.{Net}
 use Rattle.hw_net.specs.declared.netlist.NetOp.{NetOp}
 use Rattle.hw_net.specs.declared.netlist.NetOp.TheVariants.{Input, Const, Resize, ShiftUp, ShiftDown, Add, Subtract, Negate, Multiply, And, Or, Xor, Not, Less, Equal, Choose, Slice}
 use Rattle.hw_net.specs.declared.netlist.NetKind.{NetKind}
-use Rattle.hw_net.specs.declared.netlist.NetKind.TheVariants.{Comb, Reg, EnReg, Bridge, Unit, Counter}
+use Rattle.hw_net.specs.declared.netlist.NetKind.TheVariants.{Comb, Reg, EnReg, Acc, Bridge, Unit, Counter}
 use Rattle.hw_net.specs.Circuit.{Circuit}
 use Rattle.hw_net.specs.Operation.{arity}
 use Rattle.hw_net.specs.Netlist.{IsNetlist, IsKind, HasParts, HasBits, reads}
@@ -51,6 +51,7 @@ can-step : (nets : List Net) (cycles inputs width : ℕ) (signed : Bool) (kind :
 can-step nets cycles inputs width signed (Comb op args) words there has = can-give nets inputs args op words there has.0 has.1
 can-step nets cycles inputs width signed (Reg frame slot first from) words there has = has.0
 can-step nets cycles inputs width signed (EnReg frame enable reset first from) words there has = has.0
+can-step nets cycles inputs width signed (Acc frame enable from) words there has = has.0
 can-step nets cycles inputs width signed (Bridge frame live from) words there has = has.0
 can-step nets cycles inputs width signed (Unit left right) words there has = tt
 can-step nets cycles inputs width signed (Counter frame) words there has = has.0

@@ -1,20 +1,14 @@
 -- One sweep over the nets in an order in which each stands after those that it reads in the same clock.
-use Rattle.std.proofs.Common.{◌≡◌, ◌≢◌, ℕ, zero, suc, ◌+◌, ◌*◌, ◌<◌, ◌≤◌, ◌⊎◌, inl, inr, Bool, List, length, Option, None, Some, slice_get, slice_index, slice_index_or, set, All, ℤ, pos, ap, sym, ◌∙◌}
-use Rattle.std.proofs.Common.{subst, arith, refl}
-use Rattle.math_num.specs.Word.{IsWrapped}
+use Rattle.std.proofs.Common.{◌≡◌, ◌≢◌, ℕ, ◌+◌, ◌<◌, ◌≤◌, ◌⊎◌, inl, inr, List, length, Some, slice_get, slice_index, slice_index_or, set, All, ℤ, pos, ap, sym, ◌∙◌}
+use Rattle.std.proofs.Common.{subst, arith}
 use Rattle.hw_net.specs.declared.netlist.Net.{Net}
-use Rattle.hw_net.specs.declared.netlist.NetKind.{NetKind}
-use Rattle.hw_net.specs.declared.netlist.NetKind.TheVariants.{Comb, Reg, EnReg, Bridge, Unit, Counter}
-use Rattle.hw_net.specs.Operation.{Operands, given_by}
 use Rattle.hw_net.specs.Netlist.{reads_now}
-use Rattle.hw_net.specs.NetRows.{number_at, operands_at, span_of}
 use Rattle.hw_run.specs.State.{row_of}
-use Rattle.hw_net.specs.Step.{Row, NetStarts, NetSteps, NetGoes, BridgeSteps}
+use Rattle.hw_net.specs.Step.{Row, NetGoes}
 use Rattle.std.proofs.lemmas.Bool.{cases_lt}
 use Rattle.std.proofs.lemmas.List.{get_or-set_same, get_or-set_other}
 use Rattle.std.proofs.lemmas.Option.{slice_get_within}
 use Rattle.hw_run.specs.inner.Sweep.{IsSwept}
-use Rattle.math_list.proofs.Places.{held}
 use Rattle.hw_order.specs.Order.{IsOrder}
 use Rattle.hw_order.proofs.Same.{goes-same}
 

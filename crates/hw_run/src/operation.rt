@@ -177,6 +177,14 @@ pub fn operate(
     wrap(result_of(op, inputs, first, second, third), width, signed)
 }
 
+/// A sum, cut to a word.
+pub fn word_sum(left: i128, right: i128, width: u8, signed: bool) -> i128
+    requires { IsWord width signed }
+    ensures { IsWrapped (left +ℤ right) width signed result }
+{
+    wrap(sum(left, right), width, signed)
+}
+
 /// A product, cut to a word.
 pub fn word_product(left: i128, right: i128, width: u8, signed: bool) -> i128
     requires { IsWord width signed }

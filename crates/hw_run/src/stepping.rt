@@ -1,14 +1,15 @@
 //! What one net shows at a clock, from the row before and what was worked out of its own.
-ghost use Rattle.std.specs.Prelude.{◌≡◌, ◌+◌, ◌*◌, ◌-◌, ◌<◌, length, pos, slice_get, All};
+ghost use Rattle.std.specs.Prelude.{◌≡◌, ◌≢◌, ◌+◌, ◌*◌, ◌-◌, ◌<◌, ◌+ℤ◌, length, pos, slice_get, All};
 ghost use Rattle.math_num.specs.Word.{IsWord, IsWrapped};
 ghost use Rattle.hw_net.specs.Operation.{given_by};
 ghost use Rattle.hw_net.specs.Netlist.{reads};
 ghost use Rattle.hw_run.specs.inner.StepTests.{CanGive, CanStep, Shows};
 ghost use Rattle.hw_net.specs.NetRows.{number_at, operands_at, span_of};
 ghost use Rattle.hw_run.specs.State.{row_of};
-ghost use Rattle.hw_net.specs.Step.{RegSteps, EnRegSteps, BridgeSteps, CounterSteps, NetGoes};
+ghost use Rattle.hw_net.specs.Step.{RegSteps, EnRegSteps, AccSteps, BridgeSteps};
+ghost use Rattle.hw_net.specs.Step.{CounterSteps, NetGoes};
 
-use crate::operation::{operate, word_product};
+use crate::operation::{operate, word_product, word_sum};
 use crate::timing::{first_count, is_live, length_of, takes};
 use hw_net::{Frame, Net, NetKind, NetOp};
 
@@ -86,6 +87,43 @@ fn enabled_register_value(
     }
 }
 
+/// The number that an accumulator has and, where it is enabled, the one that comes.
+fn added(enable: i128, from: i128, old: i128, width: u8, signed: bool) -> i128
+    requires word { IsWord width signed }
+    ensures adds { enable ≢ pos 0 → IsWrapped (old +ℤ from) width signed result }
+    ensures keeps { enable ≡ pos 0 → result ≡ old }
+{
+    if enable != 0 {
+        word_sum(old, from, width, signed)
+    } else {
+        old
+    }
+}
+
+/// What an accumulator shows at a clock.
+fn accumulator_value(
+    frame: Frame,
+    cycles: u32,
+    clock: u64,
+    enable: i128,
+    from: i128,
+    old: i128,
+    width: u8,
+    signed: bool,
+) -> i128
+    requires word { IsWord width signed }
+    requires period { 0 < frame.period }
+    requires cycles { 0 < cycles }
+    ensures { Shows clock (result ≡ pos 0)
+        (λ before. AccSteps (span_of cycles frame) width signed before enable from old result) }
+{
+    if clock == 0 || takes(frame, cycles, length_of(frame, cycles) - 1, clock - 1) {
+        0
+    } else {
+        added(enable, from, old, width, signed)
+    }
+}
+
 /// What a bridge shows at a clock.
 fn bridge_value(frame: Frame, cycles: u32, live: u32, clock: u64, from: i128, old: i128) -> i128
     requires period { 0 < frame.period }
@@ -160,6 +198,15 @@ pub fn net_value(
             let allowed = now[*enable as usize];
             let offered = now[*from as usize];
             enabled_register_value(*frame, cycles, *reset, *first, clock, allowed, offered, old)
+        }
+        NetKind::Acc {
+            frame,
+            enable,
+            from,
+        } => {
+            let allowed = now[*enable as usize];
+            let offered = now[*from as usize];
+            accumulator_value(*frame, cycles, clock, allowed, offered, old, width, signed)
         }
         NetKind::Bridge { frame, live, from } => {
             bridge_value(*frame, cycles, *live, clock, next[*from as usize], old)

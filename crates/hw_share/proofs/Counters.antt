@@ -5,7 +5,7 @@ use Rattle.std.proofs.lemmas.Option.{slice_get_within, none-some, same_Some}
 use Rattle.hw_net.specs.declared.netlist.Frame.{Frame}
 use Rattle.hw_net.specs.declared.netlist.Net.{Net}
 use Rattle.hw_net.specs.declared.netlist.NetKind.{NetKind}
-use Rattle.hw_net.specs.declared.netlist.NetKind.TheVariants.{Comb, Reg, EnReg, Bridge, Unit, Counter}
+use Rattle.hw_net.specs.declared.netlist.NetKind.TheVariants.{Comb, Reg, EnReg, Acc, Bridge, Unit, Counter}
 use Rattle.hw_net.specs.Circuit.{Circuit}
 use Rattle.math_num.specs.Bits.{truth}
 use Rattle.hw_net.specs.Closed.{CounterTells}
@@ -49,6 +49,7 @@ pub counter-kind : (kind : NetKind) (frame : Frame) → counted_frame kind ≡ S
 counter-kind (Comb op args) frame e = absurd (none-some frame e)
 counter-kind (Reg own slot first from) frame e = absurd (none-some frame e)
 counter-kind (EnReg own enable reset first from) frame e = absurd (none-some frame e)
+counter-kind (Acc own enable from) frame e = absurd (none-some frame e)
 counter-kind (Bridge own live from) frame e = absurd (none-some frame e)
 counter-kind (Unit left right) frame e = absurd (none-some frame e)
 counter-kind (Counter own) frame e = ap Counter (same_Some own frame e)

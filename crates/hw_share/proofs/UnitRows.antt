@@ -5,7 +5,7 @@ use Rattle.std.proofs.lemmas.Bool.{cases_lt}
 use Rattle.std.proofs.lemmas.Option.{slice_get_within, get_or_from_slice_get, slice_get-get_or}
 use Rattle.std.proofs.Math.Nat.{mul-le-mul}
 use Rattle.hw_net.specs.declared.netlist.NetKind.{NetKind}
-use Rattle.hw_net.specs.declared.netlist.NetKind.TheVariants.{Comb, Reg, EnReg, Bridge, Unit, Counter}
+use Rattle.hw_net.specs.declared.netlist.NetKind.TheVariants.{Comb, Reg, EnReg, Acc, Bridge, Unit, Counter}
 use Rattle.hw_net.specs.Circuit.{Circuit}
 use Rattle.hw_net.specs.Closed.{RegisterIsClosed, RegShows, frame_start}
 use Rattle.hw_net.specs.Registers.{Wave, Span, IsReg}
@@ -142,6 +142,7 @@ module _ (closed : RegisterIsClosed) (a b c d : Circuit) (operations : List Oper
   choosing-part (Comb op args) is = is
   choosing-part (Reg frame slot from to) is = tt
   choosing-part (EnReg frame enable reset from to) is = is
+  choosing-part (Acc frame enable to) is = is
   choosing-part (Bridge frame live from) is = is
   choosing-part (Unit left right) is = tt
   choosing-part (Counter frame) is = is
@@ -150,6 +151,7 @@ module _ (closed : RegisterIsClosed) (a b c d : Circuit) (operations : List Oper
   multiplying-part (Comb op args) is = absurd is
   multiplying-part (Reg frame slot from to) is = tt
   multiplying-part (EnReg frame enable reset from to) is = is
+  multiplying-part (Acc frame enable to) is = is
   multiplying-part (Bridge frame live from) is = is
   multiplying-part (Unit left right) is = tt
   multiplying-part (Counter frame) is = absurd is
@@ -158,6 +160,7 @@ module _ (closed : RegisterIsClosed) (a b c d : Circuit) (operations : List Oper
   keeping-part (Comb op args) is = absurd is
   keeping-part (Reg frame slot from to) is = tt
   keeping-part (EnReg frame enable reset from to) is = is
+  keeping-part (Acc frame enable to) is = is
   keeping-part (Bridge frame live from) is = is
   keeping-part (Unit left right) is = tt
   keeping-part (Counter frame) is = is
@@ -191,6 +194,7 @@ module _ (closed : RegisterIsClosed) (a b c d : Circuit) (operations : List Oper
   is-multiplying (Comb op args) is = absurd is
   is-multiplying (Reg frame slot from to) is = absurd is
   is-multiplying (EnReg frame enable reset from to) is = absurd is
+  is-multiplying (Acc frame enable to) is = absurd is
   is-multiplying (Bridge frame live from) is = absurd is
   is-multiplying (Unit left right) is = refl
   is-multiplying (Counter frame) is = absurd is

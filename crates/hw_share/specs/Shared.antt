@@ -9,7 +9,7 @@ use Rattle.hw_net.specs.declared.netlist.NetOp.TheVariants.{ShiftDown, Add, Subt
 use Rattle.hw_net.specs.declared.netlist.NetOp.TheVariants.{Multiply, And, Or, Xor, Not, Less}
 use Rattle.hw_net.specs.declared.netlist.NetOp.TheVariants.{Equal, Choose, Slice}
 use Rattle.hw_net.specs.declared.netlist.NetKind.{NetKind}
-use Rattle.hw_net.specs.declared.netlist.NetKind.TheVariants.{Comb, Reg, EnReg, Bridge, Unit}
+use Rattle.hw_net.specs.declared.netlist.NetKind.TheVariants.{Comb, Reg, EnReg, Acc, Bridge, Unit}
 use Rattle.hw_net.specs.declared.netlist.NetKind.TheVariants.{Counter}
 use Rattle.hw_net.specs.Circuit.{Circuit}
 use Rattle.hw_net.specs.Frames.{register_count}
@@ -74,6 +74,7 @@ abbrev pub IsPart : (Frame → Type 0) → NetKind → Type 0
 IsPart frames (Comb op args) = IsChoosingOp op
 IsPart frames (Reg frame slot first from) = ⊤
 IsPart frames (EnReg frame enable reset first from) = ⊥
+IsPart frames (Acc frame enable from) = ⊥
 IsPart frames (Bridge frame live from) = ⊥
 IsPart frames (Unit left right) = ⊤
 IsPart frames (Counter frame) = frames frame

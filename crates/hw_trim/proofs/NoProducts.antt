@@ -3,7 +3,7 @@ use Rattle.std.proofs.Common.{◌≡◌, ℕ, List, [], false, refl}
 use Rattle.hw_net.specs.declared.netlist.NetOp.{NetOp}
 use Rattle.hw_net.specs.declared.netlist.NetOp.TheVariants.{Input, Const, Resize, ShiftUp, ShiftDown, Add, Subtract, Negate, Multiply, And, Or, Xor, Not, Less, Equal, Choose, Slice}
 use Rattle.hw_net.specs.declared.netlist.NetKind.{NetKind}
-use Rattle.hw_net.specs.declared.netlist.NetKind.TheVariants.{Comb, Reg, EnReg, Bridge, Unit, Counter}
+use Rattle.hw_net.specs.declared.netlist.NetKind.TheVariants.{Comb, Reg, EnReg, Acc, Bridge, Unit, Counter}
 use Rattle.hw_net.specs.Products.{comb_product, op_product, unit_product}
 use Rattle.hw_trim.specs.inner.Marks.{is_product, multiplies}
 
@@ -11,6 +11,7 @@ pub no-unit : (w : ℕ) (kind : NetKind) → multiplies kind ≡ false → unit_
 no-unit w (Comb op args) e = refl
 no-unit w (Reg frame slot first from) e = refl
 no-unit w (EnReg frame enable reset first from) e = refl
+no-unit w (Acc frame enable from) e = refl
 no-unit w (Bridge frame live from) e = refl
 no-unit w (Unit left right) e = absurd (cc e)
 no-unit w (Counter frame) e = refl
@@ -38,6 +39,7 @@ pub no-comb : (w : ℕ) (kind : NetKind) → multiplies kind ≡ false → comb_
 no-comb w (Comb op args) e = no-product w args op e
 no-comb w (Reg frame slot first from) e = refl
 no-comb w (EnReg frame enable reset first from) e = refl
+no-comb w (Acc frame enable from) e = refl
 no-comb w (Bridge frame live from) e = refl
 no-comb w (Unit left right) e = refl
 no-comb w (Counter frame) e = refl

@@ -83,6 +83,7 @@ fn multiplies(kind: &NetKind) -> bool
         NetKind::Comb { .. }
         | NetKind::Reg { .. }
         | NetKind::EnReg { .. }
+        | NetKind::Acc { .. }
         | NetKind::Bridge { .. }
         | NetKind::Counter { .. } => false,
     }
@@ -175,6 +176,11 @@ pub fn mark_needs(
             enable,
             from,
             ..
+        }
+        | NetKind::Acc {
+            frame,
+            enable,
+            from,
         } => mark_register(marks, order, netlist, *frame, &[*enable, *from]),
         NetKind::Counter { .. } => Ok(()),
     }

@@ -182,6 +182,7 @@ fn held_of(nets: &[Net]) -> usize {
             NetKind::Comb { .. } | NetKind::Unit { .. } => {}
             NetKind::Reg { .. }
             | NetKind::EnReg { .. }
+            | NetKind::Acc { .. }
             | NetKind::Bridge { .. }
             | NetKind::Counter { .. } => held = held.wrapping_add(1),
         }

@@ -259,7 +259,10 @@ fn counts_of(nets: &[Net]) -> (usize, usize) {
     let mut units = 0usize;
     for net in nets {
         match &net.kind {
-            NetKind::Reg { .. } | NetKind::EnReg { .. } | NetKind::Bridge { .. } => {
+            NetKind::Reg { .. }
+            | NetKind::EnReg { .. }
+            | NetKind::Acc { .. }
+            | NetKind::Bridge { .. } => {
                 registers = registers.wrapping_add(1);
             }
             NetKind::Unit { .. } => units = units.wrapping_add(1),

@@ -22,6 +22,7 @@ fn is_counted(netlist: &Netlist, kind: &NetKind) -> bool
     match kind {
         NetKind::Reg { frame, .. } => netlist.counter_of(*frame).is_some(),
         NetKind::EnReg { frame, .. } => netlist.counter_of(*frame).is_some(),
+        NetKind::Acc { frame, .. } => netlist.counter_of(*frame).is_some(),
         NetKind::Bridge { frame, .. } => netlist.counter_of(*frame).is_some(),
         NetKind::Comb { .. } | NetKind::Unit { .. } | NetKind::Counter { .. } => true,
     }

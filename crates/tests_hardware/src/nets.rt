@@ -36,6 +36,7 @@ fn kind_of(alloc: Global, row: &mut Row<'_>) -> Result<NetKind> {
         "reg" => register(row),
         "keep" => enabled_register(row, false),
         "reset" => enabled_register(row, true),
+        "acc" => accumulator(row),
         "bridge" => bridge(row),
         "counter" => Ok(NetKind::Counter {
             frame: frame_of(row)?,
@@ -60,6 +61,14 @@ fn enabled_register(row: &mut Row<'_>, reset: bool) -> Result<NetKind> {
         enable: row.number()?,
         reset,
         first: row.integer()?,
+        from: row.number()?,
+    })
+}
+
+fn accumulator(row: &mut Row<'_>) -> Result<NetKind> {
+    Ok(NetKind::Acc {
+        frame: frame_of(row)?,
+        enable: row.number()?,
         from: row.number()?,
     })
 }

@@ -16,7 +16,7 @@ use Rattle.vl_ast.specs.Nets.{declared_by, declarations, declaration_of}
 use Rattle.hw_net.specs.declared.netlist.Net.{Net}
 use Rattle.hw_net.specs.declared.netlist.NetPort.{NetPort}
 use Rattle.hw_net.specs.declared.netlist.NetKind.{NetKind}
-use Rattle.hw_net.specs.declared.netlist.NetKind.TheVariants.{Comb, Reg, EnReg, Bridge, Unit, Counter}
+use Rattle.hw_net.specs.declared.netlist.NetKind.TheVariants.{Comb, Reg, EnReg, Acc, Bridge, Unit, Counter}
 use Rattle.hw_net.specs.Products.{places}
 use Rattle.vl_emit.specs.inner.NetItems.{Naming, drivers, declarers, unit_drivers, other_drivers, output_item, module_items}
 use Rattle.vl_emit.specs.inner.Sound.{IsEmitted}
@@ -63,6 +63,7 @@ module _ (cycles count : ℕ) (naming : Naming) (net : ℕ → Net) (outputs : L
   declared-of k (Counter frame) d c = one-of (OfD k) _ d (inl refl) c
   declared-of k (Reg frame slot first from) d c = one-of (OfD k) _ d (inl refl) c
   declared-of k (EnReg frame enable resets first from) d c = one-of (OfD k) _ d (inl refl) c
+  declared-of k (Acc frame enable from) d c = one-of (OfD k) _ d (inl refl) c
   declared-of k (Bridge frame live from) d c = two-of (OfD k) _ _ d (inl refl) (inr refl) c
 
   one-pair : {X : Type 0} (R : X → X → Type 0) (x : X) → AllPairs R (x ∷ [])
@@ -74,6 +75,7 @@ module _ (cycles count : ℕ) (naming : Naming) (net : ℕ → Net) (outputs : L
   declared-pairs k h (Counter frame) = one-pair DifferD _
   declared-pairs k h (Reg frame slot first from) = one-pair DifferD _
   declared-pairs k h (EnReg frame enable resets first from) = one-pair DifferD _
+  declared-pairs k h (Acc frame enable from) = one-pair DifferD _
   declared-pairs k h (Bridge frame live from) =
       pairs-cons DifferD (net_declared k PlainWire) (held_declared k ∷ [])
       (λ d c. one-of (λ (d : Declared). naming.net k ≢ d.name) (held_declared k) d
@@ -146,6 +148,7 @@ module _ (cycles count : ℕ) (naming : Naming) (net : ℕ → Net) (outputs : L
   unit-of k (Counter frame) name c = absurd (no-element name c)
   unit-of k (Reg frame slot first from) name c = absurd (no-element name c)
   unit-of k (EnReg frame enable resets first from) name c = absurd (no-element name c)
+  unit-of k (Acc frame enable from) name c = absurd (no-element name c)
   unit-of k (Bridge frame live from) name c = absurd (no-element name c)
 
   other-of : (k : ℕ) (kind : NetKind) (name : List ℕ) → Contains (other_names k kind) name → IsOf k name
@@ -155,6 +158,7 @@ module _ (cycles count : ℕ) (naming : Naming) (net : ℕ → Net) (outputs : L
   other-of k (Reg frame slot first from) name c = one-of (IsOf k) _ name (inl refl) c
   other-of k (EnReg frame enable true first from) name c = one-of (IsOf k) _ name (inl refl) c
   other-of k (EnReg frame enable false first from) name c = one-of (IsOf k) _ name (inl refl) c
+  other-of k (Acc frame enable from) name c = one-of (IsOf k) _ name (inl refl) c
   other-of k (Bridge frame live from) name c = two-of (IsOf k) _ _ name (inl refl) (inr refl) c
 
   not-both : (k : ℕ) (kind : NetKind) (a b : List ℕ) → Contains (unit_names k kind) a → Contains (other_names k kind) b → ⊥
@@ -163,6 +167,7 @@ module _ (cycles count : ℕ) (naming : Naming) (net : ℕ → Net) (outputs : L
   not-both k (Counter frame) a b c d = no-element a c
   not-both k (Reg frame slot first from) a b c d = no-element a c
   not-both k (EnReg frame enable resets first from) a b c d = no-element a c
+  not-both k (Acc frame enable from) a b c d = no-element a c
   not-both k (Bridge frame live from) a b c d = no-element a c
 
   no-pair : {X : Type 0} (R : X → X → Type 0) → AllPairs R []
@@ -174,6 +179,7 @@ module _ (cycles count : ℕ) (naming : Naming) (net : ℕ → Net) (outputs : L
   unit-pairs k (Counter frame) = no-pair DifferN
   unit-pairs k (Reg frame slot first from) = no-pair DifferN
   unit-pairs k (EnReg frame enable resets first from) = no-pair DifferN
+  unit-pairs k (Acc frame enable from) = no-pair DifferN
   unit-pairs k (Bridge frame live from) = no-pair DifferN
 
   other-pairs : (k : ℕ) → k < count → (kind : NetKind) → AllPairs DifferN (other_names k kind)
@@ -183,6 +189,7 @@ module _ (cycles count : ℕ) (naming : Naming) (net : ℕ → Net) (outputs : L
   other-pairs k h (Reg frame slot first from) = one-pair DifferN _
   other-pairs k h (EnReg frame enable true first from) = one-pair DifferN _
   other-pairs k h (EnReg frame enable false first from) = one-pair DifferN _
+  other-pairs k h (Acc frame enable from) = one-pair DifferN _
   other-pairs k h (Bridge frame live from) =
       pairs-cons DifferN (naming.net k) (naming.hold k ∷ [])
       (λ name c. one-of (λ (other : List ℕ). naming.net k ≢ other) (naming.hold k) name
@@ -293,6 +300,10 @@ module _ (cycles count : ℕ) (naming : Naming) (net : ℕ → Net) (outputs : L
       one-of MayItem _ i (may-by true (net_declared k Register)
       (declared-in k h (EnReg frame enable false first from) is _ (net_declared k Register) (here _ []) refl)
       refl) c
+  driver-may k h (Acc frame enable from) is i c =
+      one-of MayItem _ i (may-by true (net_declared k Register)
+      (declared-in k h (Acc frame enable from) is _ (net_declared k Register) (here _ []) refl)
+      refl) c
   driver-may k h (Bridge frame live from) is i c =
       let held : Declared = record { name = naming.hold k; kind = Register; net = record { width = (net k).width; signed = (net k).signed } } in
       two-of MayItem _ (hold_driver cycles count naming net outputs k) i
@@ -314,6 +325,7 @@ module _ (cycles count : ℕ) (naming : Naming) (net : ℕ → Net) (outputs : L
   declarer-may k (Counter frame) i c = one-of MayItem _ i tt c
   declarer-may k (Reg frame slot first from) i c = one-of MayItem _ i tt c
   declarer-may k (EnReg frame enable resets first from) i c = one-of MayItem _ i tt c
+  declarer-may k (Acc frame enable from) i c = one-of MayItem _ i tt c
   declarer-may k (Bridge frame live from) i c = two-of MayItem _ (hold_declarer cycles count naming net outputs k) i tt tt c
 
   item-may : (i : ModItem) → Contains (module_items cycles count naming net outputs) i → MayItem i

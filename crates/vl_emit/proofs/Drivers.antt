@@ -1,6 +1,6 @@
 -- The drivers of each net break no condition on expressions, and read only the nets that the net names,
 -- the counter of its frame and itself.
-use Rattle.std.proofs.Common.{◌≡◌, inl, inr, ℕ, ◌+◌, ◌-◌, ◌*◌, ◌^◌, ◌<◌, ◌≤◌, nat_le, nat_lt, max, Bool, true, false, ◌&&◌, List, [], ◌∷◌, ◌++◌, get_or, Contains, Some, None, ℤ, ap, sym, ◌∙◌, subst}
+use Rattle.std.proofs.Common.{◌≡◌, inl, inr, ℕ, ◌+◌, ◌-◌, ◌*◌, ◌^◌, ◌<◌, ◌≤◌, nat_le, nat_lt, max, Bool, true, false, ◌&&◌, List, [], ◌∷◌, ◌++◌, get_or, Contains, Some, None, ℤ, pos, ap, sym, ◌∙◌, subst}
 use Rattle.std.proofs.Common.{refl, arith, pow_pos, pow_mono}
 use Rattle.std.proofs.lemmas.Bool.{cond_both, le-leb, lt-ltb, and_from}
 use Rattle.std.proofs.lemmas.List.Elements.{Contains-append_cases}
@@ -20,7 +20,7 @@ use Rattle.hw_net.specs.declared.netlist.Net.{Net}
 use Rattle.hw_net.specs.declared.netlist.NetOp.{NetOp}
 use Rattle.hw_net.specs.declared.netlist.NetOp.TheVariants as operation
 use Rattle.hw_net.specs.declared.netlist.NetKind.{NetKind}
-use Rattle.hw_net.specs.declared.netlist.NetKind.TheVariants.{Comb, Reg, EnReg, Bridge, Unit, Counter}
+use Rattle.hw_net.specs.declared.netlist.NetKind.TheVariants.{Comb, Reg, EnReg, Acc, Bridge, Unit, Counter}
 use Rattle.vl_emit.specs.Names.{Wire}
 use Rattle.vl_emit.specs.inner.Pieces.{zeros}
 use Rattle.vl_emit.specs.inner.Operators.{product, test_of}
@@ -61,6 +61,7 @@ multiplies (Unit left right) = true
 multiplies (Counter frame) = false
 multiplies (Reg frame slot first from) = false
 multiplies (EnReg frame enable reset first from) = false
+multiplies (Acc frame enable from) = false
 multiplies (Bridge frame live from) = false
 
 module _ (nets : List ℕ → DeclaredNet) (allowed : List ℕ → Type 0) where
@@ -249,6 +250,18 @@ module _ (nets : List ℕ → DeclaredNet) (allowed : List ℕ → Type 0) (cycl
         (test-clean nets allowed (wire enable)
         (may (EnReg frame enable false first from) is enable names.2 (inr (inr refl)))))
         (named-clean from (may (EnReg frame enable false first from) is from names.1.of.there (inl refl)) names.1.of.width)) c
+    drivers-clean (Acc frame enable from) is i c =
+        let names = subst (IsSoundKind cycles count naming net rank k) is (sound.names k h) in
+        let last = slot-of frame (frame.period * cycles - 1) names.0 (may (Acc frame enable from) is (naming.counter frame) names.0.there (inr (inl refl))) in
+        only false _ i (always-clean nets allowed (naming.net k) (constant (net k).width (pos 0)) 1 (net k).width _ _ (omega arith) high (first-sound (pos 0))
+        (binary-clean nets allowed 1 binary.Either (slot_test cycles frame (wire (naming.counter frame)) (frame.period * cycles - 1)) (test_of (wire enable)) (omega arith) (λ m. refl)
+        last (test-clean nets allowed (wire enable) (may (Acc frame enable from) is enable names.2 (inr (inr (inl refl))))))
+        (choose-clean nets allowed (net k).width 1 (slot_test cycles frame (wire (naming.counter frame)) (frame.period * cycles - 1)) (expression.Literal (constant (net k).width (pos 0)))
+        (expression.Binary binary.Add (expression.Name (naming.net k)) (expression.Name (naming.net from))) high (omega arith) last
+        (literal-clean nets allowed (constant (net k).width (pos 0)) low high (bits-fit (net k).width (pos 0)))
+        (binary-clean nets allowed (net k).width binary.Add (expression.Name (naming.net k)) (expression.Name (naming.net from)) high (λ m. refl)
+        (net-clean nets allowed (wire k) (may (Acc frame enable from) is k h (inr (inr (inr refl)))))
+        (named-clean from (may (Acc frame enable from) is from names.1.of.there (inl refl)) names.1.of.width)))) c
     drivers-clean (Bridge frame live from) is i c =
         let names = subst (IsSoundKind cycles count naming net rank k) is (sound.names k h) in
         let counter : ℕ = naming.counter frame in

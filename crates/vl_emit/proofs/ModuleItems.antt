@@ -7,7 +7,7 @@ use Rattle.vl_ast.specs.Nets.{Drives, mentions, nets_of}
 use Rattle.hw_net.specs.declared.netlist.NetLabel.{NetLabel}
 use Rattle.hw_net.specs.declared.netlist.NetOp.TheVariants.{Multiply}
 use Rattle.hw_net.specs.declared.netlist.NetKind.{NetKind}
-use Rattle.hw_net.specs.declared.netlist.NetKind.TheVariants.{Comb, Reg, EnReg, Bridge, Unit, Counter}
+use Rattle.hw_net.specs.declared.netlist.NetKind.TheVariants.{Comb, Reg, EnReg, Acc, Bridge, Unit, Counter}
 use Rattle.hw_net.specs.Circuit.{Circuit}
 use Rattle.hw_net.specs.Netlist.{IsNetlist}
 use Rattle.std.proofs.lemmas.List.Elements.{Contains-append_left}
@@ -41,6 +41,7 @@ module _ (netlist : Circuit) (runs : IsNetlist netlist) (emits : IsEmittable net
   declarer-named k (Counter frame) i c = one-of (Named k (Counter frame)) _ i (inl refl) c
   declarer-named k (Reg frame slot first from) i c = one-of (Named k (Reg frame slot first from)) _ i (inl refl) c
   declarer-named k (EnReg frame enable resets first from) i c = one-of (Named k (EnReg frame enable resets first from)) _ i (inl refl) c
+  declarer-named k (Acc frame enable from) i c = one-of (Named k (Acc frame enable from)) _ i (inl refl) c
   declarer-named k (Bridge frame live from) i c =
       two-of (Named k (Bridge frame live from)) _ (hold_declarer netlist.cycles (length netlist.nets) (naming_of netlist) (net_at netlist.nets) netlist.outputs k) i (inl refl) (inr (tt, refl)) c
 
@@ -51,6 +52,7 @@ module _ (netlist : Circuit) (runs : IsNetlist netlist) (emits : IsEmittable net
   driver-named k (Reg frame slot first from) i c = one-of (Named k (Reg frame slot first from)) _ i (inl refl) c
   driver-named k (EnReg frame enable true first from) i c = one-of (Named k (EnReg frame enable true first from)) _ i (inl refl) c
   driver-named k (EnReg frame enable false first from) i c = one-of (Named k (EnReg frame enable false first from)) _ i (inl refl) c
+  driver-named k (Acc frame enable from) i c = one-of (Named k (Acc frame enable from)) _ i (inl refl) c
   driver-named k (Bridge frame live from) i c =
       two-of (Named k (Bridge frame live from)) _ (hold_driver netlist.cycles (length netlist.nets) (naming_of netlist) (net_at netlist.nets) netlist.outputs k) i (inl refl) (inr (tt, refl)) c
 
@@ -153,6 +155,7 @@ module _ (netlist : Circuit) (runs : IsNetlist netlist) (emits : IsEmittable net
   name-driven k h (Reg frame slot first from) is = mentioned k h (Reg frame slot first from) is _ (here _ []) refl
   name-driven k h (EnReg frame enable true first from) is = mentioned k h (EnReg frame enable true first from) is _ (here _ []) refl
   name-driven k h (EnReg frame enable false first from) is = mentioned k h (EnReg frame enable false first from) is _ (here _ []) refl
+  name-driven k h (Acc frame enable from) is = mentioned k h (Acc frame enable from) is _ (here _ []) refl
   name-driven k h (Bridge frame live from) is =
       mentioned k h (Bridge frame live from) is _ (here _ (hold_driver netlist.cycles (length netlist.nets) (naming_of netlist) (net_at netlist.nets) netlist.outputs k ∷ [])) refl
 

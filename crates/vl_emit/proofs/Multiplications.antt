@@ -19,7 +19,7 @@ use Rattle.vl_ast.specs.Nets.{nets_of}
 use Rattle.hw_net.specs.declared.netlist.NetPort.{NetPort}
 use Rattle.hw_net.specs.declared.netlist.NetOp.TheVariants.{Input, Const, Resize, ShiftUp, ShiftDown, Add, Subtract, Negate, Multiply, And, Or, Xor, Not, Less, Equal, Choose, Slice}
 use Rattle.hw_net.specs.declared.netlist.NetKind.{NetKind}
-use Rattle.hw_net.specs.declared.netlist.NetKind.TheVariants.{Comb, Reg, EnReg, Bridge, Unit, Counter}
+use Rattle.hw_net.specs.declared.netlist.NetKind.TheVariants.{Comb, Reg, EnReg, Acc, Bridge, Unit, Counter}
 use Rattle.hw_net.specs.Circuit.{Circuit}
 use Rattle.hw_net.specs.Netlist.{IsNetlist}
 use Rattle.hw_net.specs.Emittable.{IsEmittable}
@@ -84,6 +84,7 @@ module _ (P : NetKind → Type 0) (product : (args : List ℕ) → P (Comb Multi
   by-kind (Comb (Slice high low) args) = none (Comb (Slice high low) args) refl (λ width. refl)
   by-kind (Reg frame slot first from) = none (Reg frame slot first from) refl (λ width. refl)
   by-kind (EnReg frame enable resets first from) = none (EnReg frame enable resets first from) refl (λ width. refl)
+  by-kind (Acc frame enable from) = none (Acc frame enable from) refl (λ width. refl)
   by-kind (Bridge frame live from) = none (Bridge frame live from) refl (λ width. refl)
   by-kind (Counter frame) = none (Counter frame) refl (λ width. refl)
 
@@ -234,6 +235,7 @@ module _ (netlist : Circuit) (runs : IsNetlist netlist) (emits : IsEmittable net
   unit-zip k h (Comb op args) is = tt
   unit-zip k h (Reg frame slot first from) is = tt
   unit-zip k h (EnReg frame enable resets first from) is = tt
+  unit-zip k h (Acc frame enable from) is = tt
   unit-zip k h (Bridge frame live from) is = tt
   unit-zip k h (Unit left right) is =
       let names = subst (IsSoundKind cycles count naming net runs.ranked.0 k) is (sound.names k h) in

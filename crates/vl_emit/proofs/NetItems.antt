@@ -9,7 +9,7 @@ use Rattle.vl_ast.specs.Nets.{Declared, Register, declarations}
 use Rattle.hw_net.specs.declared.netlist.Net.{Net}
 use Rattle.hw_net.specs.declared.netlist.NetPort.{NetPort}
 use Rattle.hw_net.specs.declared.netlist.NetKind.{NetKind}
-use Rattle.hw_net.specs.declared.netlist.NetKind.TheVariants.{Comb, Reg, EnReg, Bridge, Unit, Counter}
+use Rattle.hw_net.specs.declared.netlist.NetKind.TheVariants.{Comb, Reg, EnReg, Acc, Bridge, Unit, Counter}
 use Rattle.hw_net.specs.Products.{places}
 use Rattle.vl_emit.specs.inner.NetItems.{Naming, drivers, declarers, unit_drivers, other_drivers, output_item, module_items, plain_number}
 use Rattle.vl_ast.specs.declared.expressions.Expr.TheVariants as expression
@@ -44,6 +44,7 @@ module _ (cycles count : ℕ) (naming : Naming) (net : ℕ → Net) (outputs : L
   drivers-silent k (Reg frame slot first from) i c = one-silent _ i (λ d e. e) c
   drivers-silent k (EnReg frame enable true first from) i c = one-silent _ i (λ d e. e) c
   drivers-silent k (EnReg frame enable false first from) i c = one-silent _ i (λ d e. e) c
+  drivers-silent k (Acc frame enable from) i c = one-silent _ i (λ d e. e) c
   drivers-silent k (Bridge frame live from) i c = elim (first-or-later _ i (hold_driver k ∷ []) c) [
     | inl same ↦ subst Silent same (λ d e. e)
     | inr after ↦ one-silent (hold_driver k) i (λ d e. e) after
@@ -55,6 +56,7 @@ module _ (cycles count : ℕ) (naming : Naming) (net : ℕ → Net) (outputs : L
   units-drive k (Counter frame) i c = absurd (no-element i c)
   units-drive k (Reg frame slot first from) i c = absurd (no-element i c)
   units-drive k (EnReg frame enable reset first from) i c = absurd (no-element i c)
+  units-drive k (Acc frame enable from) i c = absurd (no-element i c)
   units-drive k (Bridge frame live from) i c = absurd (no-element i c)
 
   pub others-drive : (k : ℕ) (kind : NetKind) (i : ModItem) → Contains (other_drivers cycles naming net k kind) i → Contains (drivers cycles naming net k kind) i
@@ -63,6 +65,7 @@ module _ (cycles count : ℕ) (naming : Naming) (net : ℕ → Net) (outputs : L
   others-drive k (Counter frame) i c = c
   others-drive k (Reg frame slot first from) i c = c
   others-drive k (EnReg frame enable reset first from) i c = c
+  others-drive k (Acc frame enable from) i c = c
   others-drive k (Bridge frame live from) i c = c
 
   pub unit-or-other : (k : ℕ) (kind : NetKind) (i : ModItem) → Contains (drivers cycles naming net k kind) i
@@ -72,6 +75,7 @@ module _ (cycles count : ℕ) (naming : Naming) (net : ℕ → Net) (outputs : L
   unit-or-other k (Counter frame) i c = inr c
   unit-or-other k (Reg frame slot first from) i c = inr c
   unit-or-other k (EnReg frame enable reset first from) i c = inr c
+  unit-or-other k (Acc frame enable from) i c = inr c
   unit-or-other k (Bridge frame live from) i c = inr c
 
   abbrev items : Items
@@ -124,6 +128,7 @@ module _ (cycles count : ℕ) (naming : Naming) (net : ℕ → Net) (outputs : L
   declarers-say k (Counter frame) i c = one-says k _ i (λ d e. reg-of k (naming.net k) d (inl refl) e) c
   declarers-say k (Reg frame slot first from) i c = one-says k _ i (λ d e. reg-of k (naming.net k) d (inl refl) e) c
   declarers-say k (EnReg frame enable reset first from) i c = one-says k _ i (λ d e. reg-of k (naming.net k) d (inl refl) e) c
+  declarers-say k (Acc frame enable from) i c = one-says k _ i (λ d e. reg-of k (naming.net k) d (inl refl) e) c
   declarers-say k (Bridge frame live from) i c = elim (first-or-later _ i (hold_declarer k ∷ []) c) [
     | inl same ↦ subst (Says k) same (λ d e. wire-of k (naming.net k) d (inl refl) e)
     | inr after ↦ one-says k (hold_declarer k) i (λ d e. reg-of k (naming.hold k) d (inr refl) e) after
@@ -155,6 +160,7 @@ module _ (cycles count : ℕ) (naming : Naming) (net : ℕ → Net) (outputs : L
   declares-net k (Counter frame) = (_, _, here _ [], refl, refl)
   declares-net k (Reg frame slot first from) = (_, _, here _ [], refl, refl)
   declares-net k (EnReg frame enable reset first from) = (_, _, here _ [], refl, refl)
+  declares-net k (Acc frame enable from) = (_, _, here _ [], refl, refl)
   declares-net k (Bridge frame live from) = (_, _, here _ (hold_declarer k ∷ []), refl, refl)
 
   module _ (m : Module) (are : m.items ≡ module_items cycles count naming net outputs) (names : AreNames count naming m.ports) where

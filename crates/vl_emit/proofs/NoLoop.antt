@@ -17,7 +17,7 @@ use Rattle.vl_ast.specs.Conditions.{IsLoop, AssignmentReads}
 use Rattle.hw_net.specs.declared.netlist.Net.{Net}
 use Rattle.hw_net.specs.declared.netlist.NetPort.{NetPort}
 use Rattle.hw_net.specs.declared.netlist.NetKind.{NetKind}
-use Rattle.hw_net.specs.declared.netlist.NetKind.TheVariants.{Comb, Reg, EnReg, Bridge, Unit, Counter}
+use Rattle.hw_net.specs.declared.netlist.NetKind.TheVariants.{Comb, Reg, EnReg, Acc, Bridge, Unit, Counter}
 use Rattle.hw_net.specs.Operation.{arity}
 use Rattle.hw_net.specs.Products.{places}
 use Rattle.vl_emit.specs.inner.Clean.{IsClean, IsCleanItem}
@@ -38,6 +38,7 @@ NamedNow naming (Bridge frame live from) j = (from ≡ j) ⊎ (naming.counter fr
 NamedNow naming (Counter frame) j = ⊥
 NamedNow naming (Reg frame slot first from) j = ⊥
 NamedNow naming (EnReg frame enable reset first from) j = ⊥
+NamedNow naming (Acc frame enable from) j = ⊥
 
 abbrev IsWire : NetKind → Type 0
 IsWire (Comb op args) = ⊤
@@ -46,6 +47,7 @@ IsWire (Bridge frame live from) = ⊤
 IsWire (Counter frame) = ⊥
 IsWire (Reg frame slot first from) = ⊥
 IsWire (EnReg frame enable reset first from) = ⊥
+IsWire (Acc frame enable from) = ⊥
 
 module _ (cycles count : ℕ) (naming : Naming) (net : ℕ → Net) (rank : ℕ → ℕ) (outputs : List NetPort) (m : Module)
     (sound : IsSound cycles count naming net rank) (emitted : IsEmitted cycles count naming net outputs m) (alone : HasOnly outputs m) where
@@ -112,6 +114,7 @@ module _ (cycles count : ℕ) (naming : Naming) (net : ℕ → Net) (rank : ℕ 
   of-net k h (Reg frame slot first from) is name value c = (let e = only-item _ _ c in absurd (cc e))
   of-net k h (EnReg frame enable true first from) is name value c = (let e = only-item _ _ c in absurd (cc e))
   of-net k h (EnReg frame enable false first from) is name value c = (let e = only-item _ _ c in absurd (cc e))
+  of-net k h (Acc frame enable from) is name value c = (let e = only-item _ _ c in absurd (cc e))
   of-net k h (Bridge frame live from) is name value c = elim (first-or-later _ (item.Assign name value) (hold_driver cycles count naming net outputs k ∷ []) c) [
     | inl same ↦ (let names = subst (IsSoundKind cycles count naming net rank k) is (sound.names k h) in
         let clean = bridge-clean (nets_of m) (MayRead k) cycles count naming net rank sound k h frame live from is
@@ -162,6 +165,7 @@ module _ (cycles count : ℕ) (naming : Naming) (net : ℕ → Net) (rank : ℕ 
   falls k j h (Counter frame) is n w = absurd n
   falls k j h (Reg frame slot first from) is n w = absurd n
   falls k j h (EnReg frame enable reset_too first from) is n w = absurd n
+  falls k j h (Acc frame enable from) is n w = absurd n
 
   just-name : (x : List ℕ) (k : ℕ) → k < count → (value : Expr) → expression.Name (naming.net k) ≡ value → Contains (names_read value) x → naming.net k ≡ x
   just-name x k h value e c =

@@ -15,7 +15,7 @@ use Rattle.hw_net.specs.declared.netlist.NetPort.{NetPort}
 use Rattle.hw_net.specs.declared.netlist.NetOp.{NetOp}
 use Rattle.hw_net.specs.declared.netlist.NetOp.TheVariants.{Input}
 use Rattle.hw_net.specs.declared.netlist.NetKind.{NetKind}
-use Rattle.hw_net.specs.declared.netlist.NetKind.TheVariants.{Comb, Reg, EnReg, Bridge, Unit, Counter}
+use Rattle.hw_net.specs.declared.netlist.NetKind.TheVariants.{Comb, Reg, EnReg, Acc, Bridge, Unit, Counter}
 use Rattle.hw_net.specs.Circuit.{Circuit}
 use Rattle.hw_net.specs.Frames.{counter_of}
 use Rattle.hw_net.specs.Netlist.{IsNetlist}
@@ -90,6 +90,7 @@ module _ (netlist : Circuit) (runs : IsNetlist netlist) (emits : IsEmittable net
   declarer-of k (Counter frame) i c = one-of (Declares k) _ i (inl refl, refl) c
   declarer-of k (Reg frame slot first from) i c = one-of (Declares k) _ i (inl refl, refl) c
   declarer-of k (EnReg frame enable resets first from) i c = one-of (Declares k) _ i (inl refl, refl) c
+  declarer-of k (Acc frame enable from) i c = one-of (Declares k) _ i (inl refl, refl) c
   declarer-of k (Bridge frame live from) i c = two-of (Declares k) _ (hold_declarer cycles count naming net netlist.outputs k) i (inl refl, refl) (inr refl, refl) c
 
   abbrev Drives : ℕ → ModItem → Type 0
@@ -104,6 +105,7 @@ module _ (netlist : Circuit) (runs : IsNetlist netlist) (emits : IsEmittable net
   driver-of k (Reg frame slot first from) i c = one-of (Drives k) _ i (inl refl) c
   driver-of k (EnReg frame enable true first from) i c = one-of (Drives k) _ i (inl refl) c
   driver-of k (EnReg frame enable false first from) i c = one-of (Drives k) _ i (inl refl) c
+  driver-of k (Acc frame enable from) i c = one-of (Drives k) _ i (inl refl) c
   driver-of k (Bridge frame live from) i c = two-of (Drives k) _ (hold_driver cycles count naming net netlist.outputs k) i (inl refl) (inr refl) c
 
   same-net : (j k : ℕ) → j < length netlist.nets → k < length netlist.nets → (name : List ℕ) → IsOf j name → IsOf k name → j ≡ k
@@ -164,6 +166,16 @@ module _ (netlist : Circuit) (runs : IsNetlist netlist) (emits : IsEmittable net
       })
   may-read k (EnReg frame enable resets first from) ready j (inr (inl e)) = inr (counter-name frame ready.0 j e)
   may-read k (EnReg frame enable resets first from) ready j (inr (inr e)) = inl (record { net = j; named = subst (Contains (enable ∷ from ∷ [])) e (here enable (from ∷ [])); is = refl })
+  may-read k (Acc frame enable from) ready j (inl e) =
+      inl (record {
+        net = j;
+        named = subst (Contains (enable ∷ from ∷ [])) e
+            (later enable from (from ∷ []) (here from []));
+        is = refl;
+      })
+  may-read k (Acc frame enable from) ready j (inr (inl e)) = inr (inl (counter-name frame ready.0 j e))
+  may-read k (Acc frame enable from) ready j (inr (inr (inl e))) = inl (record { net = j; named = subst (Contains (enable ∷ from ∷ [])) e (here enable (from ∷ [])); is = refl })
+  may-read k (Acc frame enable from) ready j (inr (inr (inr e))) = inr (inr (ap (name_of netlist) (sym e)))
   may-read k (Bridge frame live from) ready j (inl e) = inl (record { net = j; named = subst (Contains (from ∷ [])) e (here from []); is = refl })
   may-read k (Bridge frame live from) ready j (inr (inl e)) = inr (inl (counter-name frame ready.0 j e))
   may-read k (Bridge frame live from) ready j (inr (inr e)) = inr (inr (inl (ap (name_of netlist) (sym e))))
@@ -202,6 +214,7 @@ module _ (netlist : Circuit) (runs : IsNetlist netlist) (emits : IsEmittable net
     not-always j (Counter frame) c = one-of IsDeclaration _ _ tt c
     not-always j (Reg frame slot first from) c = one-of IsDeclaration _ _ tt c
     not-always j (EnReg frame enable resets first from) c = one-of IsDeclaration _ _ tt c
+    not-always j (Acc frame enable from) c = one-of IsDeclaration _ _ tt c
     not-always j (Bridge frame live from) c = two-of IsDeclaration _ (hold_declarer cycles count naming net netlist.outputs j) _ tt tt c
   register-by k from name first condition value same h frame slot start is (Driving j p c) =
       let own : j ≡ k = same-net j k p h name (driver-of j (net j).kind (item.Always name first condition value) c) (inl same) in

@@ -9,7 +9,7 @@ use Rattle.vl_ast.specs.Gated.{gated_item, shows_enable}
 use Rattle.vl_ast.specs.Multiplications.{Multiplication, item_multiplications}
 use Rattle.vl_ast.specs.Nets.{nets_of}
 use Rattle.hw_net.specs.declared.netlist.NetKind.{NetKind}
-use Rattle.hw_net.specs.declared.netlist.NetKind.TheVariants.{Comb, Reg, EnReg, Bridge, Unit, Counter}
+use Rattle.hw_net.specs.declared.netlist.NetKind.TheVariants.{Comb, Reg, EnReg, Acc, Bridge, Unit, Counter}
 use Rattle.hw_net.specs.declared.netlist.Net.{Net}
 use Rattle.hw_net.specs.Circuit.{Circuit}
 use Rattle.hw_net.specs.Netlist.{IsNetlist}
@@ -66,6 +66,7 @@ module _ (netlist : Circuit) (runs : IsNetlist netlist) (emits : IsEmittable net
   unit-assigned k h (Comb op args) is = tt
   unit-assigned k h (Reg frame slot first from) is = tt
   unit-assigned k h (EnReg frame enable resets first from) is = tt
+  unit-assigned k h (Acc frame enable from) is = tt
   unit-assigned k h (Bridge frame live from) is = tt
   unit-assigned k h (Unit left right) is =
       let names = subst (IsSoundKind netlist.cycles count (naming_of netlist) net runs.ranked.0 k) is (sound.names k h) in

@@ -1,5 +1,5 @@
 -- In a run registers, bridges and counters go on as the netlist says.
-use Rattle.std.proofs.Common.{◌≡◌, ◌≢◌, ◌⊎◌, inl, inr, ℕ, suc, ◌+◌, ◌-◌, ◌*◌, ◌%◌, ◌<◌, ◌==◌, Bool, true, false, not, ◌&&◌, if◌then◌else◌, List, [], ◌∷◌, Contains, ℤ, pos, ◌+ℤ◌, ◌≤ℤ◌, Option, Some}
+use Rattle.std.proofs.Common.{◌≡◌, ◌≢◌, ◌⊎◌, inl, inr, ℕ, suc, ◌+◌, ◌-◌, ◌*◌, ◌%◌, ◌<◌, ◌==◌, Bool, true, false, not, ◌&&◌, ◌||◌, if◌then◌else◌, List, [], ◌∷◌, Contains, ℤ, pos, ◌+ℤ◌, ◌≤ℤ◌, Option, Some}
 use Rattle.std.proofs.Common.{None, ap, sym, ◌∙◌, subst, refl, arith, add-one, pow_pos}
 use Rattle.std.proofs.lemmas.Int.{ints}
 use Rattle.std.proofs.lemmas.Bool.Decides.{Decides-int_eq}
@@ -7,6 +7,7 @@ use Rattle.std.proofs.Math.Nat.{mod-eq_of_lt}
 use Rattle.std.specs.Ordering.{int_eq}
 use Rattle.math_num.specs.Word.{InWord}
 use Rattle.vl_ast.specs.declared.expressions.BinOp.TheVariants as binary
+use Rattle.vl_ast.specs.declared.expressions.Sized.{Sized}
 use Rattle.vl_ast.specs.declared.expressions.Expr.{Expr}
 use Rattle.vl_ast.specs.declared.expressions.Expr.TheVariants as expression
 use Rattle.vl_ast.specs.declared.modules.ModItem.TheVariants as item
@@ -16,12 +17,12 @@ use Rattle.vl_ast.specs.Nets.{nets_of}
 use Rattle.vl_ast.specs.Value.{bits_of}
 use Rattle.hw_net.specs.declared.netlist.Frame.{Frame}
 use Rattle.hw_net.specs.declared.netlist.NetKind.{NetKind}
-use Rattle.hw_net.specs.declared.netlist.NetKind.TheVariants.{Reg, EnReg, Bridge, Counter}
+use Rattle.hw_net.specs.declared.netlist.NetKind.TheVariants.{Reg, EnReg, Acc, Bridge, Counter}
 use Rattle.hw_net.specs.Circuit.{Circuit}
 use Rattle.hw_net.specs.Closed.{CounterIsTelling}
 use Rattle.hw_net.specs.NetRows.{span_of}
 use Rattle.hw_net.specs.Registers.{Takes as TakesAt, IsLive}
-use Rattle.hw_net.specs.Step.{RegSteps, EnRegSteps, BridgeSteps, CounterSteps}
+use Rattle.hw_net.specs.Step.{RegSteps, EnRegSteps, AccSteps, BridgeSteps, CounterSteps}
 use Rattle.vl_emit.specs.Names.{Wire}
 use Rattle.vl_emit.specs.inner.Operators.{test_of}
 use Rattle.vl_emit.specs.inner.AtWidth.{IsWritten}
@@ -32,10 +33,10 @@ use Rattle.vl_emit.proofs.CounterNumbers.{count_of}
 use Rattle.vl_emit.proofs.ModuleNets.{here, later}
 use Rattle.vl_emit.proofs.AtWidth.{alone-written, as-name, assigned-written}
 use Rattle.vl_emit.proofs.OfOperations.{test-tells}
-use Rattle.vl_emit.proofs.Operations.{literal-written, choose-written, choice-bits}
-use Rattle.vl_emit.proofs.Registers.{next-value, name-written, condition-told, both-written, no-bit, both-some}
+use Rattle.vl_emit.proofs.Operations.{add-written, literal-written, choose-written, choice-bits}
+use Rattle.vl_emit.proofs.Registers.{next-value, name-written, condition-told, both-written, either-written, no-bit, both-some}
 use Rattle.vl_ast.proofs.SomeInputs.{bits-fit}
-use Rattle.vl_emit.proofs.NetBits.{Running, known, bits-of-value, value-is, assigned-bits, first-bits, released, edge, item-of, names-of}
+use Rattle.vl_emit.proofs.NetBits.{Running, known, bits-of-value, value-is, value-wrapped, assigned-bits, first-bits, released, edge, item-of, names-of}
 use Rattle.vl_emit.proofs.Counters.{slot_bit, live_bit, counter-value, counter-counts, slot-written, slot-decides, live-written, live-decides}
 
 module _ {netlist : Circuit} {rank : ℕ → ℕ} {m : Module} {total last : ℕ} {start : List ℕ → ℕ} {inputs rows : ℕ → List ℕ → ℕ}
@@ -179,6 +180,70 @@ module _ {netlist : Circuit} {rank : ℕ → ℕ} {m : Module} {total last : ℕ
     en-goes clock frame enable resets first from is below =
         let names = names-of run k h (EnReg frame enable resets first from) is in
         en-by clock frame resets first enable from (slot-comes clock frame) (is-off clock enable) (en-next clock frame enable resets first from is below)
+        (slot-decides run telling clock (omega (arith, below)) frame names.0 (frame.period * cycles - 1)) refl
+
+    -- an accumulator, by whether the frame ends and whether `enable` is 0
+    abbrev gathered : ℕ → ℕ → Bool → Bool → ℤ
+    gathered clock from t u = (if t || not u then (if not t then value k clock +ℤ value from clock else pos 0) else value k clock)
+
+    acc-by : (clock : ℕ) (frame : Frame) (enable from : ℕ) → suc clock < clocks → InWord (net k).width (net k).signed (pos 0) → (t u : Bool)
+        → row (suc clock) (naming.net k) ≡ bits_of (net k).width (gathered clock from t u)
+        → ((t ≡ true) × TakesAt (span_of cycles frame) (frame.period * cycles - 1) clock) ⊎ ((t ≡ false) × ¬ TakesAt (span_of cycles frame) (frame.period * cycles - 1) clock)
+        → int_eq (value enable clock) (pos 0) ≡ u
+        → AccSteps (span_of cycles frame) (net k).width (net k).signed clock (value enable clock) (value from clock) (value k clock) (value k (suc clock))
+    acc-by clock frame enable from below none false u e (inl d) f = absurd (cc (d.0))
+    acc-by clock frame enable from below none true u e (inr d) f = absurd (cc (d.0))
+    acc-by clock frame enable from below none true u e (inl d) f =
+        record { clears = λ _. value-is run (suc clock) k (pos 0) h none e; adds = λ no. absurd (no d.1); keeps = λ no. absurd (no d.1) }
+    acc-by clock frame enable from below none false false e (inr d) f =
+        let other : value enable clock ≢ pos 0 = λ z. (let g = (Decides-int_eq (value enable clock) (pos 0)).1 z in absurd (cc (f, g))) in
+        record {
+          clears = λ yes. absurd (d.1 yes);
+          adds = λ _ _. value-wrapped run (suc clock) k (value k clock +ℤ value from clock) below h e;
+          keeps = λ _ z. absurd (other z);
+        }
+    acc-by clock frame enable from below none false true e (inr d) f =
+        let off : value enable clock ≡ pos 0 = (Decides-int_eq (value enable clock) (pos 0)).0 f in
+        record {
+          clears = λ yes. absurd (d.1 yes);
+          adds = λ _ some. absurd (some off);
+          keeps = λ _ _. value-is run (suc clock) k (value k clock) h (own-in clock (omega (arith, below))) e;
+        }
+
+    acc-bits : (clock : ℕ) (frame : Frame) (enable from : ℕ) → (net k).kind ≡ Acc frame enable from → suc clock < clocks
+        → row (suc clock) (naming.net k) ≡ bits_of (net k).width (gathered clock from (slot-comes clock frame) (is-off clock enable))
+    acc-bits clock frame enable from is below =
+        let names = names-of run k h (Acc frame enable from) is in
+        let earlier : clock < clocks = omega (arith, below) in
+        let t : Bool = slot-comes clock frame in
+        let u : Bool = is-off clock enable in
+        let w : ℕ = (net k).width in
+        let begins : Sized = constant w (pos 0) in
+        let last : Expr = slot_test cycles frame (wire (naming.counter frame)) (frame.period * cycles - 1) in
+        let test : Expr = test_of (wire enable) in
+        let more : Expr = expression.Binary binary.Add (expression.Name (naming.net k)) (expression.Name (naming.net from)) in
+        let either : Expr = expression.Binary binary.Either last test in
+        let next : Expr = expression.Choose last (expression.Literal begins) more in
+        let z : ℤ = (if not t then value k clock +ℤ value from clock else pos 0) in
+        let told = slot-written run telling clock earlier frame names.0 (frame.period * cycles - 1) in
+        let sum = add-written (nets_of m) (row clock) w (value k clock) (value from clock) (expression.Name (naming.net k)) (expression.Name (naming.net from))
+        (as-name (nets_of m) (row clock) (wire k) (value k clock) (known run clock k earlier h)) (from-written clock from earlier names.1.of) in
+        edge run clock (naming.net k) begins (Some either) next below (item-of run k h (Acc frame enable from) is (item.Always (naming.net k) begins (Some either) next) (here _ []))
+        ∙ next-value m (row clock) (naming.net k) w (net k).signed (run.has.declared k h) begins (Some either) next (t || not u) z (released run clock below)
+        (condition-told (nets_of m) (row clock) (t || not u) either
+        (either-written (nets_of m) (row clock) t u last test told
+        (test-tells (nets_of m) (row clock) (wire enable) (value enable clock) (known run clock enable earlier names.2))))
+        (choose-written (nets_of m) (row clock) w (pos 0) (value k clock +ℤ value from clock) (not t) last (expression.Literal begins) more
+        (ap (λ (b : ℕ). b == 0) (alone-written (nets_of m) (row clock) 1 (pos (truth t)) last told) ∙ no-bit t)
+        (literal-written (nets_of m) (row clock) w (pos 0)) sum)
+        ∙ ap (λ (b : ℕ). if t || not u then bits_of w z else b) (bits-of-value run clock k earlier h)
+        ∙ choice-bits (t || not u) w (value k clock) z
+
+    pub acc-goes : (clock : ℕ) (frame : Frame) (enable from : ℕ) → (net k).kind ≡ Acc frame enable from → suc clock < clocks
+        → AccSteps (span_of cycles frame) (net k).width (net k).signed clock (value enable clock) (value from clock) (value k clock) (value k (suc clock))
+    acc-goes clock frame enable from is below =
+        let names = names-of run k h (Acc frame enable from) is in
+        acc-by clock frame enable from below names.1.first_in (slot-comes clock frame) (is-off clock enable) (acc-bits clock frame enable from is below)
         (slot-decides run telling clock (omega (arith, below)) frame names.0 (frame.period * cycles - 1)) refl
 
     module _ (frame : Frame) (live from : ℕ) (is : (net k).kind ≡ Bridge frame live from) where

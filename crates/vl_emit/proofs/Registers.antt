@@ -1,5 +1,5 @@
 -- What a register takes at an edge, and what the tests on a counter tell.
-use Rattle.std.proofs.Common.{◌≡◌, ℕ, zero, suc, ◌*◌, ◌%◌, ◌^◌, ◌<◌, ◌==◌, nat_lt, max, Bool, true, false, not, ◌&&◌, if◌then◌else◌, List, ℤ, pos, int_lt, Option, codes, ap, sym, ◌∙◌, subst, refl}
+use Rattle.std.proofs.Common.{◌≡◌, ℕ, zero, suc, ◌*◌, ◌%◌, ◌^◌, ◌<◌, ◌==◌, nat_lt, max, Bool, true, false, not, ◌&&◌, ◌||◌, if◌then◌else◌, List, ℤ, pos, int_lt, Option, codes, ap, sym, ◌∙◌, subst, refl}
 use Rattle.std.proofs.Common.{arith}
 use Rattle.std.proofs.lemmas.Bool.{and_right}
 use Rattle.std.proofs.Math.Nat.{mod-eq_of_lt}
@@ -106,6 +106,16 @@ module _ (nets : List ℕ → Net) (row : List ℕ → ℕ) where
         length = length-Binary nets binary.Both x y;
         value = λ signed. value-Binary nets row 1 signed binary.Both x y
             ∙ (λ i. truth (not (a i == 0) && not (e i))) ∙ (λ i. truth (one-bit t i && not u)) ∙ truth-bit (t && not u);
+      }
+
+  pub either-written : (t u : Bool) (x y : Expr) → Written 1 (pos (truth t)) x → ((by_itself nets row y).bits == 0) ≡ u
+      → Written 1 (pos (truth (t || not u))) (expression.Binary binary.Either x y)
+  either-written t u x y p e =
+      let a = alone-written nets row 1 (pos (truth t)) x p in
+      record {
+        length = length-Binary nets binary.Either x y;
+        value = λ signed. value-Binary nets row 1 signed binary.Either x y
+            ∙ (λ i. truth (not (a i == 0) || not (e i))) ∙ (λ i. truth (one-bit t i || not u)) ∙ truth-bit (t || not u);
       }
 
 module _ (m : Module) (row : List ℕ → ℕ) (name : List ℕ) (w : ℕ) (signed : Bool) (declared : nets_of m name ≡ record { width = w; signed = signed }) where

@@ -12,7 +12,7 @@ use Rattle.hw_net.specs.declared.netlist.NetPort.{NetPort}
 use Rattle.hw_net.specs.declared.netlist.NetOp.{NetOp}
 use Rattle.hw_net.specs.declared.netlist.NetOp.TheVariants.{Input, Const, Resize, ShiftUp, ShiftDown, Add, Subtract, Negate, Multiply, And, Or, Xor, Not, Less, Equal, Choose, Slice}
 use Rattle.hw_net.specs.declared.netlist.NetKind.{NetKind}
-use Rattle.hw_net.specs.declared.netlist.NetKind.TheVariants.{Comb, Reg, EnReg, Bridge, Unit, Counter}
+use Rattle.hw_net.specs.declared.netlist.NetKind.TheVariants.{Comb, Reg, EnReg, Acc, Bridge, Unit, Counter}
 use Rattle.hw_net.specs.Circuit.{Circuit}
 use Rattle.hw_net.specs.Frames.{frame_of, counted_frame, is_frame, counter_from, counter_of, HasCounters}
 use Rattle.hw_net.specs.Netlist.{reads, reads_now, HasWord, HasParts, IsKind, IsNetlist}
@@ -33,6 +33,7 @@ counts-frame : (frame : Frame) (kind : NetKind) → is_frame frame (counted_fram
 counts-frame frame (Comb op args) e = absurd (cc e)
 counts-frame frame (Reg own slot first from) e = absurd (cc e)
 counts-frame frame (EnReg own enable reset_too first from) e = absurd (cc e)
+counts-frame frame (Acc own enable from) e = absurd (cc e)
 counts-frame frame (Bridge own live from) e = absurd (cc e)
 counts-frame frame (Unit left right) e = absurd (cc e)
 counts-frame frame (Counter own) e = ap Counter (same-is own frame e)
@@ -164,6 +165,7 @@ module _ (netlist : Circuit) (runs : IsNetlist netlist) (counted : HasCounters n
       )
   ready-by k (Reg frame slot first from) w = (timed frame w.is_kind.0 (w.frames frame refl), w.there 0 0 (omega arith))
   ready-by k (EnReg frame enable reset_too first from) w = (timed frame w.is_kind.0 (w.frames frame refl), w.there 1 0 (omega arith), w.there 0 0 (omega arith))
+  ready-by k (Acc frame enable from) w = (timed frame w.is_kind.0 (w.frames frame refl), w.there 1 0 (omega arith), w.there 0 0 (omega arith))
   ready-by k (Bridge frame live from) w = (timed frame w.is_kind.0 (w.frames frame refl), w.there 0 0 (omega arith))
   ready-by k (Unit left right) w = (w.there 0 0 (omega arith), w.there 1 0 (omega arith))
   ready-by k (Counter frame) w = w.is_kind.0
@@ -178,6 +180,8 @@ module _ (netlist : Circuit) (runs : IsNetlist netlist) (counted : HasCounters n
   sound-by k h (Reg frame slot first from) w =
       (counted-of frame (timed frame w.is_kind.0 (w.frames frame refl)), record { of = has-word k from w.is_kind.1; first_in = w.is_kind.2 })
   sound-by k h (EnReg frame enable reset_too first from) w =
+      (counted-of frame (timed frame w.is_kind.0 (w.frames frame refl)), record { of = has-word k from w.is_kind.1; first_in = w.is_kind.2 }, w.there 0 0 (omega arith))
+  sound-by k h (Acc frame enable from) w =
       (counted-of frame (timed frame w.is_kind.0 (w.frames frame refl)), record { of = has-word k from w.is_kind.1; first_in = w.is_kind.2 }, w.there 0 0 (omega arith))
   sound-by k h (Bridge frame live from) w = (
     counted-of frame (timed frame w.is_kind.0 (w.frames frame refl)),

@@ -25,7 +25,7 @@ use Rattle.hw_net.specs.declared.netlist.Frame.{Frame}
 use Rattle.hw_net.specs.declared.netlist.NetLabel.{NetLabel}
 use Rattle.hw_net.specs.declared.netlist.NetPort.{NetPort}
 use Rattle.hw_net.specs.declared.netlist.NetKind.{NetKind}
-use Rattle.hw_net.specs.declared.netlist.NetKind.TheVariants.{Comb, Reg, EnReg, Bridge, Unit, Counter}
+use Rattle.hw_net.specs.declared.netlist.NetKind.TheVariants.{Comb, Reg, EnReg, Acc, Bridge, Unit, Counter}
 use Rattle.hw_net.specs.Circuit.{Circuit}
 use Rattle.hw_net.specs.Netlist.{IsNetlist}
 use Rattle.hw_net.specs.Emittable.{IsEmittable}
@@ -89,6 +89,7 @@ module _ (netlist : Circuit) (runs : IsNetlist netlist) (emits : IsEmittable net
   declarer-short k (Counter frame) i c = one-of AreShort _ i tt c
   declarer-short k (Reg frame slot first from) i c = one-of AreShort _ i tt c
   declarer-short k (EnReg frame enable reset first from) i c = one-of AreShort _ i tt c
+  declarer-short k (Acc frame enable from) i c = one-of AreShort _ i tt c
   declarer-short k (Bridge frame live from) i c = two-of AreShort _ (hold_declarer netlist.cycles (length netlist.nets) (naming_of netlist) (net_at netlist.nets) netlist.outputs k) i tt tt c
 
   up : (n : ℕ) (e : Expr) → n ≤ 5 → IsShort n e → IsShort 5 e
@@ -121,6 +122,11 @@ module _ (netlist : Circuit) (runs : IsNetlist netlist) (emits : IsEmittable net
       one-of AreShort _ i (
         up 2 _ (omega arith) (short-binary 1 binary.Both _ _ (short-slot netlist.cycles frame (counter frame) (last frame)) (short-test (wire enable))),
         up 0 _ (omega arith) (short-name _),
+      ) c
+  driver-short k (Acc frame enable from) i c =
+      one-of AreShort _ i (
+        up 2 _ (omega arith) (short-binary 1 binary.Either _ _ (short-slot netlist.cycles frame (counter frame) (last frame)) (short-test (wire enable))),
+        up 2 _ (omega arith) (short-choose 1 _ _ _ (short-slot netlist.cycles frame (counter frame) (last frame)) (deeper 0 1 _ (omega arith) (short-literal _)) (short-binary 0 binary.Add _ _ (short-name _) (short-name _))),
       ) c
   driver-short k (Bridge frame live from) i c =
       two-of AreShort _ (hold_driver netlist.cycles (length netlist.nets) (naming_of netlist) (net_at netlist.nets) netlist.outputs k) i

@@ -18,7 +18,7 @@ use Rattle.hw_net.specs.declared.netlist.Frame.{Frame}
 use Rattle.hw_net.specs.declared.netlist.Net.{Net}
 use Rattle.hw_net.specs.declared.netlist.NetPort.{NetPort}
 use Rattle.hw_net.specs.declared.netlist.NetKind.{NetKind}
-use Rattle.hw_net.specs.declared.netlist.NetKind.TheVariants.{Comb, Reg, EnReg, Bridge, Unit, Counter}
+use Rattle.hw_net.specs.declared.netlist.NetKind.TheVariants.{Comb, Reg, EnReg, Acc, Bridge, Unit, Counter}
 use Rattle.hw_net.specs.Products.{places}
 use Rattle.vl_emit.specs.inner.NetItems.{Naming, drivers, declarers, unit_drivers, other_drivers, output_item}
 use Rattle.vl_emit.specs.inner.Sound.{HasOnly, IsSound, IsEmitted, HasNets}
@@ -97,6 +97,7 @@ module _ (cycles count : ℕ) (naming : Naming) (net : ℕ → Net) (rank : ℕ 
   drives-net k (Reg frame slot first from) = (_, here _ [], here _ [])
   drives-net k (EnReg frame enable true first from) = (_, here _ [], here _ [])
   drives-net k (EnReg frame enable false first from) = (_, here _ [], here _ [])
+  drives-net k (Acc frame enable from) = (_, here _ [], here _ [])
   drives-net k (Bridge frame live from) = (_, here _ (hold_driver cycles count naming net outputs k ∷ []), here _ [])
 
   abbrev IsDeclarer : ℕ → NetKind → ModItem → Type 0
@@ -120,6 +121,7 @@ module _ (cycles count : ℕ) (naming : Naming) (net : ℕ → Net) (rank : ℕ 
   declarers-are k (Counter frame) i c = only-declarer k (Counter frame) _ i (reg-declarer k (Counter frame)) c
   declarers-are k (Reg frame slot first from) i c = only-declarer k (Reg frame slot first from) _ i (reg-declarer k (Reg frame slot first from)) c
   declarers-are k (EnReg frame enable reset first from) i c = only-declarer k (EnReg frame enable reset first from) _ i (reg-declarer k (EnReg frame enable reset first from)) c
+  declarers-are k (Acc frame enable from) i c = only-declarer k (Acc frame enable from) _ i (reg-declarer k (Acc frame enable from)) c
   declarers-are k (Bridge frame live from) i c = elim (first-or-later _ i (hold_declarer cycles count naming net outputs k ∷ []) c) [
     | inl same ↦ subst (IsDeclarer k (Bridge frame live from)) same (wire-declarer k (Bridge frame live from))
     | inr after ↦ only-declarer k (Bridge frame live from) (hold_declarer cycles count naming net outputs k) i (
@@ -152,6 +154,7 @@ module _ (cycles count : ℕ) (naming : Naming) (net : ℕ → Net) (rank : ℕ 
   drivers-drive k h (Reg frame slot first from) is i c = one-drives _ i (λ name d. this-name (naming.net k) name (net-declared k h) d) c
   drivers-drive k h (EnReg frame enable true first from) is i c = one-drives _ i (λ name d. this-name (naming.net k) name (net-declared k h) d) c
   drivers-drive k h (EnReg frame enable false first from) is i c = one-drives _ i (λ name d. this-name (naming.net k) name (net-declared k h) d) c
+  drivers-drive k h (Acc frame enable from) is i c = one-drives _ i (λ name d. this-name (naming.net k) name (net-declared k h) d) c
   drivers-drive k h (Bridge frame live from) is i c = elim (first-or-later _ i (hold_driver cycles count naming net outputs k ∷ []) c) [
     | inl same ↦ subst DrivesDeclared same (λ name d. this-name (naming.net k) name (net-declared k h) d)
     | inr after ↦ one-drives (hold_driver cycles count naming net outputs k) i (λ name d. this-name (naming.hold k) name (hold-declared k h frame live from is) d) after
@@ -234,6 +237,7 @@ module _ (cycles count : ℕ) (naming : Naming) (net : ℕ → Net) (rank : ℕ 
   declarers-sound k h (Counter frame) i c = one-sound _ i (net-width (net k).width (net k).signed (sound.word k h)) c
   declarers-sound k h (Reg frame slot first from) i c = one-sound _ i (net-width (net k).width (net k).signed (sound.word k h)) c
   declarers-sound k h (EnReg frame enable reset first from) i c = one-sound _ i (net-width (net k).width (net k).signed (sound.word k h)) c
+  declarers-sound k h (Acc frame enable from) i c = one-sound _ i (net-width (net k).width (net k).signed (sound.word k h)) c
   declarers-sound k h (Bridge frame live from) i c = elim (first-or-later _ i (hold_declarer cycles count naming net outputs k ∷ []) c) [
     | inl same ↦ subst SoundItem same (net-width (net k).width (net k).signed (sound.word k h))
     | inr after ↦ one-sound (hold_declarer cycles count naming net outputs k) i (net-width (net k).width (net k).signed (sound.word k h)) after

@@ -10,7 +10,7 @@ use Rattle.hw_net.specs.declared.netlist.Net.{Net}
 use Rattle.hw_net.specs.declared.netlist.NetOp.{NetOp}
 use Rattle.hw_net.specs.declared.netlist.NetOp.TheVariants.{Input}
 use Rattle.hw_net.specs.declared.netlist.NetKind.{NetKind}
-use Rattle.hw_net.specs.declared.netlist.NetKind.TheVariants.{Comb, Reg, EnReg, Bridge, Unit, Counter}
+use Rattle.hw_net.specs.declared.netlist.NetKind.TheVariants.{Comb, Reg, EnReg, Acc, Bridge, Unit, Counter}
 use Rattle.hw_net.specs.Circuit.{Circuit}
 use Rattle.hw_net.specs.Closed.{CounterIsTelling}
 use Rattle.hw_net.specs.NetRows.{NetRows, span_of, number_at, operands_at}
@@ -28,7 +28,7 @@ use Rattle.vl_emit.proofs.OfOperations.{width-at-least}
 use Rattle.vl_emit.proofs.Factors.{op-assigned, product-assigned}
 use Rattle.vl_emit.proofs.NetBits.{Running, known, value-wrapped, assigned-bits, item-of, names-of}
 use Rattle.vl_emit.proofs.Counters.{counter-value}
-use Rattle.vl_emit.proofs.RegisterSteps.{begun, reg-goes, en-goes, bridge-begins, bridge-goes, counter-goes}
+use Rattle.vl_emit.proofs.RegisterSteps.{begun, reg-goes, en-goes, acc-goes, bridge-begins, bridge-goes, counter-goes}
 use Rattle.math_num.proofs.Words.{word-width}
 
 module _ {netlist : Circuit} {rank : ℕ → ℕ} {m : Module} {total last : ℕ} {start : List ℕ → ℕ} {inputs rows : ℕ → List ℕ → ℕ}
@@ -84,6 +84,8 @@ module _ {netlist : Circuit} {rank : ℕ → ℕ} {m : Module} {total last : ℕ
         (let names = names-of run k h (EnReg frame enable true first from) is in begun run telling k h (EnReg frame enable true first from) is first _ _ below names.1.first_in (here _ []))
     starts-by input below (EnReg frame enable false first from) is =
         (let names = names-of run k h (EnReg frame enable false first from) is in begun run telling k h (EnReg frame enable false first from) is first _ _ below names.1.first_in (here _ []))
+    starts-by input below (Acc frame enable from) is =
+        (let names = names-of run k h (Acc frame enable from) is in begun run telling k h (Acc frame enable from) is (pos 0) _ _ below names.1.first_in (here _ []))
     starts-by input below (Bridge frame live from) is = bridge-begins run telling k h frame live from is below
 
     steps-by : InputsShow → (clock : ℕ) → suc clock < clocks → (kind : NetKind) → (net k).kind ≡ kind
@@ -95,6 +97,7 @@ module _ {netlist : Circuit} {rank : ℕ → ℕ} {m : Module} {total last : ℕ
     steps-by input clock below (Counter frame) is = counter-goes run telling k h clock frame is below
     steps-by input clock below (Reg frame slot first from) is = reg-goes run telling k h clock frame slot first from is below
     steps-by input clock below (EnReg frame enable resets first from) is = en-goes run telling k h clock frame enable resets first from is below
+    steps-by input clock below (Acc frame enable from) is = acc-goes run telling k h clock frame enable from is below
     steps-by input clock below (Bridge frame live from) is =
         let e : suc clock ≡ clock + 1 = sym (add-one clock) in
         subst (λ (c : ℕ). BridgeSteps (span_of cycles frame) (live * cycles) c (value from (suc clock))

@@ -5,8 +5,8 @@ use Rattle.vl_ast.specs.declared.modules.Module.{Module}
 use Rattle.vl_ast.specs.Nets.{Drives, mentions, nets_of}
 use Rattle.hw_net.specs.declared.netlist.NetLabel.{NetLabel}
 use Rattle.hw_net.specs.declared.netlist.NetKind.{NetKind}
-use Rattle.hw_net.specs.declared.netlist.NetKind.TheVariants.{Comb, Reg, EnReg, Bridge, Unit}
-use Rattle.hw_net.specs.declared.netlist.NetKind.TheVariants.{Counter}
+use Rattle.hw_net.specs.declared.netlist.NetKind.TheVariants.{Comb, Reg, EnReg, Acc, Bridge}
+use Rattle.hw_net.specs.declared.netlist.NetKind.TheVariants.{Unit, Counter}
 use Rattle.hw_net.specs.Circuit.{Circuit}
 use Rattle.vl_emit.specs.Names.{name_of}
 use Rattle.hw_net.specs.Products.{net_at}
@@ -16,6 +16,7 @@ abbrev pub is_clocked : NetKind → Bool
 is_clocked (Comb op args) = false
 is_clocked (Reg frame slot first from) = true
 is_clocked (EnReg frame enable reset first from) = true
+is_clocked (Acc frame enable from) = true
 is_clocked (Bridge frame live from) = false
 is_clocked (Unit left right) = false
 is_clocked (Counter frame) = true

@@ -3,7 +3,8 @@ ghost use Rattle.std.specs.Prelude.{◌≡◌, ◌<◌, ◌-◌, ◌*◌, IfOk, 
 ghost use Rattle.vl_ast.specs.Gated.{gated_condition};
 ghost use Rattle.vl_ast.specs.declared.expressions.Expr.{Expr};
 ghost use Rattle.vl_emit.specs.inner.Ready.{HasFrame, net_count, cycles_in};
-ghost use Rattle.vl_emit.specs.inner.Ready.{counter_in, slot_in, live_in, taking_in};
+ghost use Rattle.vl_emit.specs.inner.Ready.{counter_in, slot_in, live_in};
+ghost use Rattle.vl_emit.specs.inner.Ready.{taking_in, adding_in};
 ghost use Rattle.vl_emit.specs.inner.NetItems.{compares};
 
 use crate::operands::{operand_name, zeros};
@@ -67,6 +68,17 @@ pub fn with_enable(alloc: Global, condition: Made<Expr>) -> Made<Expr>
         → IfOk result (λ e. e ≡ gated_condition (Some test)) }
 {
     binary(alloc, BinOp::Both, enable(alloc), condition)
+}
+
+/// Whether the clock is enabled, and the last of a frame's or one at which `enable` isn't 0.
+pub fn adding(alloc: Global, source: Source, frame: Frame, enable: u32) -> Made<Expr>
+    requires frame { HasFrame source frame }
+    requires enable { enable < net_count source }
+    ensures { IfOk result (λ e. e ≡ gated_condition (Some (adding_in source.entry frame enable))) }
+{
+    let last = slot_test(alloc, source, frame, clocks(source, frame) - 1);
+    let test = test_of(alloc, operand(source, enable as usize));
+    with_enable(alloc, binary(alloc, BinOp::Either, last, test))
 }
 
 /// Whether the clock is enabled, and the last of a frame's, and `enable` isn't 0 where nothing is reset.

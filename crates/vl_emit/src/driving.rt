@@ -2,12 +2,14 @@
 ghost use Rattle.std.specs.Prelude.{◌≡◌, ◌<◌, ℕ, length, IfOk};
 ghost use Rattle.hw_net.specs.declared.netlist.NetOp.TheVariants.{Input};
 ghost use Rattle.hw_net.specs.declared.netlist.NetKind.TheVariants.{Comb, Reg, EnReg, Bridge};
-ghost use Rattle.hw_net.specs.declared.netlist.NetKind.TheVariants.{Unit, Counter};
+ghost use Rattle.hw_net.specs.declared.netlist.NetKind.TheVariants.{Acc, Unit, Counter};
 ghost use Rattle.vl_emit.specs.inner.Ready.{Drives, IsNet, HasArguments, HasKind, input_count};
-ghost use Rattle.vl_emit.specs.inner.Ready.{argument_in, input_in, taken_in};
+ghost use Rattle.vl_emit.specs.inner.Ready.{argument_in, input_in, taken_in, added_in, HasFrame};
 ghost use Rattle.vl_emit.specs.inner.Spoken.{wire_at, CanBeWritten};
 
-use crate::conditions::{clocks, enable, enabled_taking, live_test, slot_test, with_enable};
+use crate::conditions::{
+    adding, clocks, enable, enabled_taking, live_test, slot_test, with_enable,
+};
 use crate::operands::{Operand, numbered, operand_name, text_of};
 use crate::operators::{constant, expression, plain, product, test_of};
 use crate::source::{Source, input_operand, operand};
@@ -182,6 +184,51 @@ pub fn put_enabled(
         constant(net.width, net.signed, first),
         enabled_taking(alloc, source, frame, enable, reset),
         next_value(alloc, source, enable, reset, from, begun),
+    );
+}
+
+/// What an accumulator takes: `begun` at the frame's end, else itself and the value of a net.
+fn sum_so_far(
+    alloc: Global,
+    source: Source,
+    own: usize,
+    frame: Frame,
+    from: u32,
+    begun: Sized,
+) -> Made<Expr>
+    requires own { IsNet source own }
+    requires from { IsNet source from }
+    requires frame { HasFrame source frame }
+    ensures { IfOk result (λ e. e ≡ added_in source.entry own frame from begun) }
+{
+    let last = slot_test(alloc, source, frame, clocks(source, frame) - 1);
+    let held = operand_name(alloc, operand(source, own));
+    let more = operand_name(alloc, operand(source, from as usize));
+    let sum = binary(alloc, BinOp::Add, held, more);
+    choose(alloc, last, Ok(Expr::Literal(begun)), sum)
+}
+
+/// Puts the item of an accumulator.
+pub fn put_accumulator(
+    alloc: Global,
+    out: &mut Listing<ModItem>,
+    source: Source,
+    own: usize,
+    frame: Frame,
+    enable: u32,
+    from: u32,
+)
+    requires { HasKind source own (Acc frame enable from) }
+    ensures { Drives source.entry own (Acc frame enable from) out.old out.new }
+{
+    let net = &source.netlist.nets()[own];
+    let begun = constant(net.width, net.signed, 0);
+    put_register(
+        out,
+        text_of(alloc, operand(source, own).called),
+        constant(net.width, net.signed, 0),
+        adding(alloc, source, frame, enable),
+        sum_so_far(alloc, source, own, frame, from, begun),
     );
 }
 

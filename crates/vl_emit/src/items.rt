@@ -8,7 +8,9 @@ ghost use Rattle.vl_emit.specs.inner.Ready.{HasKind, IsNet, IsSource, circuit_of
 ghost use Rattle.vl_emit.specs.inner.Ready.{net_items, first_in, all_shown};
 
 use crate::conditions::enable;
-use crate::driving::{put_bridge, put_comb, put_counter, put_enabled, put_reg, put_unit};
+use crate::driving::{
+    put_accumulator, put_bridge, put_comb, put_counter, put_enabled, put_reg, put_unit,
+};
 use crate::operands::{numbered, operand_name, text_of};
 use crate::source::{Source, operand};
 use fx_io::Text;
@@ -36,7 +38,10 @@ fn declare(alloc: Global, out: &mut Listing<ModItem>, source: Source, own: usize
         NetKind::Comb { .. } | NetKind::Unit { .. } => {
             put_declaration(out, false, net.signed, net.width, name);
         }
-        NetKind::Reg { .. } | NetKind::EnReg { .. } | NetKind::Counter { .. } => {
+        NetKind::Reg { .. }
+        | NetKind::EnReg { .. }
+        | NetKind::Acc { .. }
+        | NetKind::Counter { .. } => {
             put_declaration(out, true, net.signed, net.width, name);
         }
         NetKind::Bridge { .. } => {
@@ -72,6 +77,11 @@ fn drive(alloc: Global, out: &mut Listing<ModItem>, source: Source, own: usize, 
         } => put_enabled(
             alloc, out, source, own, *frame, *enable, *reset, *first, *from,
         ),
+        NetKind::Acc {
+            frame,
+            enable,
+            from,
+        } => put_accumulator(alloc, out, source, own, *frame, *enable, *from),
         NetKind::Bridge { frame, live, from } => {
             put_bridge(alloc, out, source, own, *frame, *live, *from);
         }

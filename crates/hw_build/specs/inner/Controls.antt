@@ -3,7 +3,7 @@ use Rattle.std.specs.Prelude.{◌≡◌, ◌≢◌, ℕ, ◌<◌, ◌≤◌, pos
 use Rattle.std.specs.List.{list_any}
 use Rattle.dg_model.specs.Operation.{stored_truth}
 use Rattle.hw_net.specs.declared.netlist.NetKind.{NetKind}
-use Rattle.hw_net.specs.declared.netlist.NetKind.TheVariants.{Comb, Reg, EnReg, Bridge, Unit, Counter}
+use Rattle.hw_net.specs.declared.netlist.NetKind.TheVariants.{Comb, Reg, EnReg, Acc, Bridge, Unit, Counter}
 use Rattle.hw_net.specs.declared.netlist.NetOp.TheVariants.{Multiply}
 use Rattle.hw_net.specs.Circuit.{Circuit}
 use Rattle.hw_net.specs.Netlist.{HasWord}
@@ -18,6 +18,7 @@ abbrev pub IsGate : NetKind → Type 0
 IsGate (Comb op args) = op ≢ Multiply
 IsGate (Reg frame slot first from) = ⊥
 IsGate (EnReg frame enable reset first from) = ⊥
+IsGate (Acc frame enable from) = ⊥
 IsGate (Bridge frame live from) = ⊥
 IsGate (Unit left right) = ⊥
 IsGate (Counter frame) = ⊥

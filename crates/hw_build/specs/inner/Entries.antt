@@ -17,7 +17,7 @@ use Rattle.dg_model.specs.Wires.{period_into, type_into, types_into, width_into,
 use Rattle.hw_net.specs.declared.netlist.Frame.{Frame}
 use Rattle.hw_net.specs.declared.netlist.Net.{Net}
 use Rattle.hw_net.specs.declared.netlist.NetKind.{NetKind}
-use Rattle.hw_net.specs.declared.netlist.NetKind.TheVariants.{Comb, Reg, EnReg, Bridge, Unit, Counter}
+use Rattle.hw_net.specs.declared.netlist.NetKind.TheVariants.{Comb, Reg, EnReg, Acc, Bridge, Unit, Counter}
 use Rattle.hw_net.specs.declared.netlist.NetOp.TheVariants.{Multiply}
 use Rattle.hw_net.specs.Circuit.{Circuit}
 use Rattle.hw_net.specs.Netlist.{HasWord, reads_now}
@@ -161,6 +161,7 @@ IsEntryPart diagram timing block (Comb op args) = ⊤
 IsEntryPart diagram timing block (Reg frame slot first from) = IsFrameOf diagram timing block frame
 IsEntryPart diagram timing block (EnReg frame enable reset first from) =
     IsFrameOf diagram timing block frame
+IsEntryPart diagram timing block (Acc frame enable from) = ⊥
 IsEntryPart diagram timing block (Bridge frame live from) = ⊥
 IsEntryPart diagram timing block (Unit left right) = ⊥
 IsEntryPart diagram timing block (Counter frame) = IsFrameOf diagram timing block frame

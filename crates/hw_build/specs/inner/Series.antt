@@ -3,7 +3,7 @@ use Rattle.std.specs.Prelude.{◌≡◌, ℕ, zero, suc, ◌+◌, ◌<◌, ◌�
 use Rattle.math_num.specs.Word.{InWord, IsWord}
 use Rattle.hw_net.specs.declared.netlist.Frame.{Frame}
 use Rattle.hw_net.specs.declared.netlist.NetKind.{NetKind}
-use Rattle.hw_net.specs.declared.netlist.NetKind.TheVariants.{Comb, Reg, EnReg, Bridge, Unit, Counter}
+use Rattle.hw_net.specs.declared.netlist.NetKind.TheVariants.{Comb, Reg, EnReg, Acc, Bridge, Unit, Counter}
 use Rattle.hw_net.specs.Circuit.{Circuit}
 use Rattle.hw_net.specs.Frames.{counter_of}
 use Rattle.hw_net.specs.Netlist.{HasWord}
@@ -43,6 +43,7 @@ abbrev pub IsOfFrame : Frame → NetKind → Type 0
 IsOfFrame own (Comb op args) = ⊥
 IsOfFrame own (Reg frame slot first from) = frame ≡ own
 IsOfFrame own (EnReg frame enable reset first from) = frame ≡ own
+IsOfFrame own (Acc frame enable from) = ⊥
 IsOfFrame own (Bridge frame live from) = ⊥
 IsOfFrame own (Unit left right) = ⊥
 IsOfFrame own (Counter frame) = frame ≡ own

@@ -5,7 +5,7 @@ use Rattle.hw_net.specs.Circuit.{Circuit}
 use Rattle.hw_net.specs.declared.netlist.Frame.{Frame}
 use Rattle.hw_net.specs.declared.netlist.Net.{Net}
 use Rattle.hw_net.specs.declared.netlist.NetKind.{NetKind}
-use Rattle.hw_net.specs.declared.netlist.NetKind.TheVariants.{Comb, Reg, EnReg, Bridge, Unit, Counter}
+use Rattle.hw_net.specs.declared.netlist.NetKind.TheVariants.{Comb, Reg, EnReg, Acc, Bridge, Unit, Counter}
 use Rattle.hw_net.specs.Frames.{CountersDiffer, register_count}
 use Rattle.hw_net.specs.Growing.{Extends}
 use Rattle.hw_net.specs.Netlist.{HasWord}
@@ -180,6 +180,7 @@ abbrev pub IsLinePart : NetKind → Type 0
 IsLinePart (Comb op args) = ⊥
 IsLinePart (Reg frame slot first from) = ⊤
 IsLinePart (EnReg frame enable reset first from) = ⊥
+IsLinePart (Acc frame enable from) = ⊥
 IsLinePart (Bridge frame live from) = ⊤
 IsLinePart (Unit left right) = ⊥
 IsLinePart (Counter frame) = ⊤

@@ -6,8 +6,8 @@ use Rattle.hw_net.specs.declared.netlist.NetOp.TheVariants.{ShiftDown, Add, Subt
 use Rattle.hw_net.specs.declared.netlist.NetOp.TheVariants.{Multiply, And, Or, Xor, Not, Less}
 use Rattle.hw_net.specs.declared.netlist.NetOp.TheVariants.{Equal, Choose, Slice}
 use Rattle.hw_net.specs.declared.netlist.NetKind.{NetKind}
-use Rattle.hw_net.specs.declared.netlist.NetKind.TheVariants.{Comb, Reg, EnReg, Bridge, Unit}
-use Rattle.hw_net.specs.declared.netlist.NetKind.TheVariants.{Counter}
+use Rattle.hw_net.specs.declared.netlist.NetKind.TheVariants.{Comb, Reg, EnReg, Acc, Bridge}
+use Rattle.hw_net.specs.declared.netlist.NetKind.TheVariants.{Unit, Counter}
 
 -- what an operation names is there: an input, and bits of 128
 abbrev pub CanGive : ℕ → NetOp → Type 0
@@ -39,6 +39,7 @@ abbrev pub CanStep : ℕ → NetKind → Type 0
 CanStep inputs (Comb op args) = CanGive inputs op
 CanStep inputs (Reg frame slot first from) = 0 < frame.period
 CanStep inputs (EnReg frame enable reset first from) = 0 < frame.period
+CanStep inputs (Acc frame enable from) = 0 < frame.period
 CanStep inputs (Bridge frame live from) = 0 < frame.period
 CanStep inputs (Unit left right) = ⊤
 CanStep inputs (Counter frame) = 0 < frame.period

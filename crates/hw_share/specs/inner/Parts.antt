@@ -4,7 +4,7 @@ use Rattle.std.specs.Prelude.{Some, ⊤}
 use Rattle.hw_net.specs.declared.netlist.Frame.{Frame}
 use Rattle.hw_net.specs.declared.netlist.Net.{Net}
 use Rattle.hw_net.specs.declared.netlist.NetKind.{NetKind}
-use Rattle.hw_net.specs.declared.netlist.NetKind.TheVariants.{Comb, Reg, EnReg, Bridge, Unit}
+use Rattle.hw_net.specs.declared.netlist.NetKind.TheVariants.{Comb, Reg, EnReg, Acc, Bridge, Unit}
 use Rattle.hw_net.specs.declared.netlist.NetKind.TheVariants.{Counter}
 use Rattle.hw_net.specs.Circuit.{Circuit}
 use Rattle.hw_net.specs.Frames.{register_count}
@@ -30,6 +30,7 @@ abbrev pub IsChoosing : (Frame → Type 0) → NetKind → Type 0
 IsChoosing frames (Comb op args) = IsChoosingOp op
 IsChoosing frames (Reg frame slot first from) = ⊥
 IsChoosing frames (EnReg frame enable reset first from) = ⊥
+IsChoosing frames (Acc frame enable from) = ⊥
 IsChoosing frames (Bridge frame live from) = ⊥
 IsChoosing frames (Unit left right) = ⊥
 IsChoosing frames (Counter frame) = frames frame
@@ -39,6 +40,7 @@ abbrev pub IsMultiplying : NetKind → Type 0
 IsMultiplying (Comb op args) = ⊥
 IsMultiplying (Reg frame slot first from) = ⊥
 IsMultiplying (EnReg frame enable reset first from) = ⊥
+IsMultiplying (Acc frame enable from) = ⊥
 IsMultiplying (Bridge frame live from) = ⊥
 IsMultiplying (Unit left right) = ⊤
 IsMultiplying (Counter frame) = ⊥

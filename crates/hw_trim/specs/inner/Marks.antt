@@ -4,7 +4,7 @@ use Rattle.std.specs.Prelude.{length, All, Some, slice_get, slice_index, slice_i
 use Rattle.hw_net.specs.declared.netlist.Frame.{Frame}
 use Rattle.hw_net.specs.declared.netlist.Net.{Net}
 use Rattle.hw_net.specs.declared.netlist.NetKind.{NetKind}
-use Rattle.hw_net.specs.declared.netlist.NetKind.TheVariants.{Comb, Reg, EnReg, Bridge, Unit, Counter}
+use Rattle.hw_net.specs.declared.netlist.NetKind.TheVariants.{Comb, Reg, EnReg, Acc, Bridge, Unit, Counter}
 use Rattle.hw_net.specs.declared.netlist.NetOp.{NetOp}
 use Rattle.hw_net.specs.declared.netlist.NetOp.TheVariants.{Input, Const, Resize, ShiftUp}
 use Rattle.hw_net.specs.declared.netlist.NetOp.TheVariants.{ShiftDown, Add, Subtract, Negate}
@@ -60,6 +60,7 @@ abbrev pub multiplies : NetKind → Bool
 multiplies (Comb op args) = is_product op
 multiplies (Reg frame slot first from) = false
 multiplies (EnReg frame enable reset first from) = false
+multiplies (Acc frame enable from) = false
 multiplies (Bridge frame live from) = false
 multiplies (Unit left right) = true
 multiplies (Counter frame) = false

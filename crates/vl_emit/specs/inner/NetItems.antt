@@ -1,7 +1,7 @@
 -- The items of each net.
 use Rattle.std.specs.Prelude.{length, codes, unwrap_or, ℕ, ◌+◌, ◌-◌, ◌*◌, nat_lt, true, false}
 use Rattle.std.specs.Prelude.{if◌then◌else◌, List, [], ◌∷◌, ◌++◌, map, flat_map, get_or, Some, None}
-use Rattle.std.specs.Prelude.{ℤ}
+use Rattle.std.specs.Prelude.{ℤ, pos}
 use Rattle.vl_ast.specs.declared.expressions.BinOp.{BinOp}
 use Rattle.vl_ast.specs.declared.expressions.BinOp.TheVariants as binary
 use Rattle.vl_ast.specs.declared.expressions.Sized.{Sized}
@@ -14,8 +14,8 @@ use Rattle.hw_net.specs.declared.netlist.Frame.{Frame}
 use Rattle.hw_net.specs.declared.netlist.Net.{Net}
 use Rattle.hw_net.specs.declared.netlist.NetPort.{NetPort}
 use Rattle.hw_net.specs.declared.netlist.NetKind.{NetKind}
-use Rattle.hw_net.specs.declared.netlist.NetKind.TheVariants.{Comb, Reg, EnReg, Bridge, Unit}
-use Rattle.hw_net.specs.declared.netlist.NetKind.TheVariants.{Counter}
+use Rattle.hw_net.specs.declared.netlist.NetKind.TheVariants.{Comb, Reg, EnReg, Acc, Bridge}
+use Rattle.hw_net.specs.declared.netlist.NetKind.TheVariants.{Unit, Counter}
 use Rattle.vl_emit.specs.Names.{Wire}
 use Rattle.vl_emit.specs.inner.Pieces.{zeros}
 use Rattle.vl_emit.specs.inner.Operators.{test_of, product, expression_of}
@@ -98,6 +98,16 @@ drivers cycles naming net k (EnReg frame enable false first from) =
     (wire_of naming net (naming.counter frame)) (frame.period * cycles - 1))
     (test_of (wire_of naming net enable))))
     (expression.Name (naming.net from)) ∷ []
+drivers cycles naming net k (Acc frame enable from) =
+    item.Always (naming.net k) (constant (net k).width (pos 0))
+    (Some (expression.Binary binary.Either (slot_test cycles frame
+    (wire_of naming net (naming.counter frame)) (frame.period * cycles - 1))
+    (test_of (wire_of naming net enable))))
+    (expression.Choose (slot_test cycles frame (wire_of naming net (naming.counter frame))
+    (frame.period * cycles - 1))
+    (expression.Literal (constant (net k).width (pos 0)))
+    (expression.Binary binary.Add (expression.Name (naming.net k))
+    (expression.Name (naming.net from)))) ∷ []
 drivers cycles naming net k (Bridge frame live from) =
     item.Assign (naming.net k) (expression.Choose
     (live_test cycles frame (wire_of naming net (naming.counter frame)) live)
@@ -115,6 +125,8 @@ declarers naming net k (Reg frame slot first from) =
     item.Reg (net k).signed (net k).width (naming.net k) ∷ []
 declarers naming net k (EnReg frame enable reset first from) =
     item.Reg (net k).signed (net k).width (naming.net k) ∷ []
+declarers naming net k (Acc frame enable from) =
+    item.Reg (net k).signed (net k).width (naming.net k) ∷ []
 declarers naming net k (Bridge frame live from) =
     item.Wire (net k).signed (net k).width (naming.net k)
     ∷ item.Reg (net k).signed (net k).width (naming.hold k) ∷ []
@@ -126,6 +138,7 @@ unit_drivers cycles naming net k (Unit left right) = drivers cycles naming net k
 unit_drivers cycles naming net k (Counter frame) = []
 unit_drivers cycles naming net k (Reg frame slot first from) = []
 unit_drivers cycles naming net k (EnReg frame enable reset first from) = []
+unit_drivers cycles naming net k (Acc frame enable from) = []
 unit_drivers cycles naming net k (Bridge frame live from) = []
 
 abbrev pub other_drivers : ℕ → Naming → (ℕ → Net) → ℕ → NetKind → List ModItem
@@ -136,6 +149,8 @@ other_drivers cycles naming net k (Reg frame slot first from) =
     drivers cycles naming net k (Reg frame slot first from)
 other_drivers cycles naming net k (EnReg frame enable reset first from) =
     drivers cycles naming net k (EnReg frame enable reset first from)
+other_drivers cycles naming net k (Acc frame enable from) =
+    drivers cycles naming net k (Acc frame enable from)
 other_drivers cycles naming net k (Bridge frame live from) =
     drivers cycles naming net k (Bridge frame live from)
 

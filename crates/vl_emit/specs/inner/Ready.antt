@@ -7,8 +7,8 @@ use Rattle.hw_net.specs.declared.netlist.NetLabel.{NetLabel}
 use Rattle.hw_net.specs.declared.netlist.NetPort.{NetPort}
 use Rattle.hw_net.specs.declared.netlist.NetOp.TheVariants.{Input}
 use Rattle.hw_net.specs.declared.netlist.NetKind.{NetKind}
-use Rattle.hw_net.specs.declared.netlist.NetKind.TheVariants.{Comb, Reg, EnReg, Bridge, Unit}
-use Rattle.hw_net.specs.declared.netlist.NetKind.TheVariants.{Counter}
+use Rattle.hw_net.specs.declared.netlist.NetKind.TheVariants.{Comb, Reg, EnReg, Acc, Bridge}
+use Rattle.hw_net.specs.declared.netlist.NetKind.TheVariants.{Unit, Counter}
 use Rattle.hw_net.specs.Circuit.{Circuit}
 use Rattle.hw_net.specs.Operation.{arity}
 use Rattle.hw_net.specs.Frames.{frame_of, counter_of}
@@ -66,6 +66,8 @@ IsReady netlist (Comb op args) =
     × ((input : ℕ) → op ≡ Input input → input < length netlist.inputs)
 IsReady netlist (Reg frame slot first from) = IsTimed netlist frame × (from < length netlist.nets)
 IsReady netlist (EnReg frame enable reset first from) =
+    IsTimed netlist frame × (from < length netlist.nets) × (enable < length netlist.nets)
+IsReady netlist (Acc frame enable from) =
     IsTimed netlist frame × (from < length netlist.nets) × (enable < length netlist.nets)
 IsReady netlist (Bridge frame live from) = IsTimed netlist frame × (from < length netlist.nets)
 IsReady netlist (Unit left right) = (left < length netlist.nets) × (right < length netlist.nets)
@@ -167,6 +169,20 @@ taken_in source enable true from begun =
     expression.Choose (test_of (wire_in source enable)) (expression.Name (wire_in source from).name)
     (expression.Literal begun)
 taken_in source enable false from begun = expression.Name (wire_in source from).name
+
+-- when an accumulator takes a value: at the frame's end, and where `enable` isn't 0
+abbrev pub adding_in : Source → Frame → ℕ → Expr
+adding_in source frame enable =
+    expression.Binary binary.Either (slot_in source frame (frame.period * cycles_in source - 1))
+    (test_of (wire_in source enable))
+
+-- what it takes: at the frame's end what it begins with, else itself and the value of a net
+abbrev pub added_in : Source → ℕ → Frame → ℕ → Sized → Expr
+added_in source own frame from begun =
+    expression.Choose (slot_in source frame (frame.period * cycles_in source - 1))
+    (expression.Literal begun)
+    (expression.Binary binary.Add (expression.Name (wire_in source own).name)
+    (expression.Name (wire_in source from).name))
 
 -- the drivers of a net of this kind are put
 abbrev pub Drives : Source → ℕ → NetKind → Listing ModItem → Listing ModItem → Type 0

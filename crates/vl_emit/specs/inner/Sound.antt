@@ -12,8 +12,8 @@ use Rattle.hw_net.specs.declared.netlist.Net.{Net}
 use Rattle.hw_net.specs.declared.netlist.NetPort.{NetPort}
 use Rattle.hw_net.specs.declared.netlist.NetOp.TheVariants.{Input}
 use Rattle.hw_net.specs.declared.netlist.NetKind.{NetKind}
-use Rattle.hw_net.specs.declared.netlist.NetKind.TheVariants.{Comb, Reg, EnReg, Bridge, Unit}
-use Rattle.hw_net.specs.declared.netlist.NetKind.TheVariants.{Counter}
+use Rattle.hw_net.specs.declared.netlist.NetKind.TheVariants.{Comb, Reg, EnReg, Acc, Bridge}
+use Rattle.hw_net.specs.declared.netlist.NetKind.TheVariants.{Unit, Counter}
 use Rattle.hw_net.specs.Operation.{arity}
 use Rattle.vl_emit.specs.inner.NetItems.{Naming, drivers, module_items}
 use Rattle.vl_emit.specs.Names.{Wire}
@@ -59,6 +59,8 @@ IsSoundKind cycles count naming net rank k (Reg frame slot first from) =
     IsCounted cycles count naming net frame × Takes count net k from first
 IsSoundKind cycles count naming net rank k (EnReg frame enable reset first from) =
     IsCounted cycles count naming net frame × Takes count net k from first × (enable < count)
+IsSoundKind cycles count naming net rank k (Acc frame enable from) =
+    IsCounted cycles count naming net frame × Takes count net k from (pos 0) × (enable < count)
 IsSoundKind cycles count naming net rank k (Bridge frame live from) =
     IsCounted cycles count naming net frame × (0 < live * cycles) × IsBefore count rank k from
     × HasWordOf count net k from
@@ -129,6 +131,8 @@ NamedBy naming k (Counter frame) j = k ≡ j
 NamedBy naming k (Reg frame slot first from) j = (from ≡ j) ⊎ (naming.counter frame ≡ j)
 NamedBy naming k (EnReg frame enable reset first from) j =
     (from ≡ j) ⊎ ((naming.counter frame ≡ j) ⊎ (enable ≡ j))
+NamedBy naming k (Acc frame enable from) j =
+    (from ≡ j) ⊎ ((naming.counter frame ≡ j) ⊎ ((enable ≡ j) ⊎ (k ≡ j)))
 NamedBy naming k (Bridge frame live from) j = (from ≡ j) ⊎ ((naming.counter frame ≡ j) ⊎ (k ≡ j))
 
 -- each port has a width, and each that isn't an input is one of the netlist's outputs

@@ -36,7 +36,10 @@ returns-in-Reg c =
       | inl here ↦ of-kind c.args.source c.args.own here.4 reg
       | inr more ↦ elim more [
         | inl here ↦ of-kind c.args.source c.args.own here.5 reg
-        | inr more ↦ of-kind c.args.source c.args.own more.1 reg
+        | inr more ↦ elim more [
+          | inl here ↦ of-kind c.args.source c.args.own here.3 reg
+          | inr more ↦ of-kind c.args.source c.args.own more.1 reg
+        ]
       ]
     ]
 

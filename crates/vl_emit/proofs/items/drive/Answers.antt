@@ -20,6 +20,9 @@ put_reg-requires c = record { net = c.requires.net; ready = (subst (HasKind c.ar
 pub put_enabled-requires : goal.put_enabled-requires
 put_enabled-requires c = record { net = c.requires.net; ready = (subst (HasKind c.args.source c.args.own) c.in-EnReg.is c.requires).ready }
 
+pub put_accumulator-requires : goal.put_accumulator-requires
+put_accumulator-requires c = subst (HasKind c.args.source c.args.own) c.in-Acc.is c.requires
+
 pub put_bridge-requires : goal.put_bridge-requires
 put_bridge-requires c = subst (HasKind c.args.source c.args.own) c.in-Bridge.is c.requires
 
@@ -35,6 +38,9 @@ returns-in-Comb c =
 
 pub returns-in-Counter : goal.returns-in-Counter
 returns-in-Counter c = lists-as (ap (λ (kind : NetKind). map gated_item (others_at (circuit_of c.args.source) c.args.own kind)) (sym c.in-Counter.is)) c.put_counter.ensures
+
+pub returns-in-Acc : goal.returns-in-Acc
+returns-in-Acc c = lists-as (ap (λ (kind : NetKind). map gated_item (others_at (circuit_of c.args.source) c.args.own kind)) (sym c.in-Acc.is)) c.put_accumulator.ensures
 
 pub returns-in-Bridge : goal.returns-in-Bridge
 returns-in-Bridge c = lists-as (ap (λ (kind : NetKind). map gated_item (others_at (circuit_of c.args.source) c.args.own kind)) (sym c.in-Bridge.is)) c.put_bridge.ensures
