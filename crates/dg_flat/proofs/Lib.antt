@@ -11,6 +11,7 @@ pub mod FlatList
 pub mod FlatParts
 pub mod FromSound
 pub mod Full
+pub mod GroupTable
 pub mod Law
 pub mod LinePorts
 pub mod Lists

@@ -8,6 +8,7 @@ use Rattle.std.proofs.lemmas.Option.{none-some, same_Some}
 use Rattle.dg_model.specs.declared.diagram.Block.{Block}
 use Rattle.dg_model.specs.declared.nested.NestedBlock.{NestedBlock}
 use Rattle.dg_flat.specs.Flat.{flat_block, flat_blocks, flat_place}
+use Rattle.dg_flat.specs.Origins.{ComesFrom, OriginsAre, OriginsDiffer}
 use Rattle.dg_flat.specs.Parts.{is_subsystem, control_of}
 use Rattle.math_list.proofs.Places.{count_cons}
 use Rattle.dg_flat.proofs.FlatParts.{agrees}
@@ -54,7 +55,7 @@ origin_from {X} {Y} h keeps agrees from (x ∷ xs) j y at =
 
 -- ---- no two from one
 
-count_before : {X : Type 0} (p : X → Bool) (xs : List X) (i j : ℕ) (x : X) → slice_get xs i ≡ Some x → p x ≡ true → i < j → count_by p (take i xs) < count_by p (take j xs)
+pub count_before : {X : Type 0} (p : X → Bool) (xs : List X) (i j : ℕ) (x : X) → slice_get xs i ≡ Some x → p x ≡ true → i < j → count_by p (take i xs) < count_by p (take j xs)
 count_before p [] i j x at passes before = absurd (none-some x at)
 count_before p (y ∷ ys) i zero x at passes before = absurd (omega (arith, before))
 count_before {X} p (y ∷ ys) zero (suc j) x at passes before =
@@ -76,15 +77,6 @@ one_place p xs i j x y at there passes other same =
 
 -- ---- flat blocks
 
--- the nested block that a flat block comes from
-pub record ComesFrom (blocks : List NestedBlock) (j : ℕ) (flat : Block) : Type 0 where
-  pub place : ℕ
-  pub block : NestedBlock
-  pub there : slice_get blocks place ≡ Some block
-  pub kept : is_subsystem block.part ≡ false
-  pub flat_at : flat_place blocks place ≡ j
-  pub gives : flat_block blocks place (control_of blocks block.parent) block.part ≡ Some flat
-
 pub comes_from : (blocks : List NestedBlock) (j : ℕ) (flat : Block) → slice_get (flat_blocks blocks) j ≡ Some flat → ComesFrom blocks j flat
 comes_from blocks j flat at =
     let o = origin_from (λ (place, block). flat_block blocks place (control_of blocks block.parent) block.part)
@@ -102,3 +94,11 @@ comes_from blocks j flat at =
 pub one_origin : (blocks : List NestedBlock) (i j : ℕ) (x y : NestedBlock) → slice_get blocks i ≡ Some x → slice_get blocks j ≡ Some y → is_subsystem x.part ≡ false → is_subsystem y.part ≡ false →
     flat_place blocks i ≡ flat_place blocks j → i ≡ j
 one_origin blocks i j x y at there kept other same = one_place (λ b. not (is_subsystem b.part)) blocks i j x y at there (ap not kept) (ap not other) same
+
+-- ---- of a flat diagram
+
+pub origins_are : OriginsAre
+origins_are nested diagram flat_is j flat at = comes_from nested.blocks j flat (ap (λ (blocks : List Block). slice_get blocks j) (sym flat_is.blocks) ∙ at)
+
+pub origins_differ : OriginsDiffer
+origins_differ nested = one_origin nested.blocks

@@ -1,3 +1,4 @@
+pub mod Groups
 pub mod Paths
 pub mod PortNumbers
 pub mod Ports

@@ -1,5 +1,6 @@
 //! What the definitions together say. Each law is a function that does nothing.
 ghost use Rattle.dg_flat.specs.Laws.{BrokenIsOne, FlatIsNotBroken, FlatIsOne, FlatIsThere};
+ghost use Rattle.dg_flat.specs.Origins.{OriginsAre, OriginsDiffer};
 
 /// Nested blocks and lines have one flat diagram that is wired, at most.
 pub fn flat_is_one()
@@ -19,4 +20,10 @@ pub fn flat_is_not_broken()
 /// Sound blocks and lines can't both have no flat diagram that is wired and break neither rule.
 pub fn flat_is_there()
     ensures { FlatIsThere }
+{}
+
+/// Each block of a flat diagram comes from a nested block that is no subsystem, and no two from one place.
+pub fn origins_are()
+    ensures come { OriginsAre }
+    ensures differ { OriginsDiffer }
 {}
