@@ -1,5 +1,5 @@
 -- A net that shows what a net that it reads shows, by each of the rules.
-use Rattle.std.proofs.Common.{◌≡◌, inl, inr, ℕ, zero, suc, ◌<◌, ◌≤◌, Bool, true, false, not, if◌then◌else◌, List, [], ◌∷◌, length, refl, ap, sym, ◌∙◌, subst, arith, ℤ, pos, negsuc, int_lt, bit_or, ◌-◌, ◌^◌, pow_mono, of_z, to_z}
+use Rattle.std.proofs.Common.{◌≡◌, inl, inr, ℕ, zero, suc, ◌<◌, ◌≤◌, Bool, true, false, not, if◌then◌else◌, List, [], ◌∷◌, length, refl, ap, sym, ◌∙◌, subst, arith, ℤ, pos, negsuc, int_lt, bit_or, ◌&&◌, ◌-ℤ◌, ◌-◌, ◌^◌, pow_mono, of_z, to_z}
 use Rattle.std.specs.Int.{w128}
 use Rattle.std.proofs.lemmas.Int.{ints, to_z-of_z}
 use Rattle.std.specs.Ordering.{int_eq}
@@ -8,9 +8,9 @@ use Rattle.math_num.specs.Word.{InWord, IsCongruent, IsWord, IsWrapped}
 use Rattle.math_num.proofs.Residues.{bits-are, bits-below, cut-through, read-congruent}
 use Rattle.math_num.proofs.Words.{word-fits, word-width, wrapped-is}
 use Rattle.hw_net.specs.declared.netlist.Net.{Net}
-use Rattle.hw_net.specs.declared.netlist.NetOp.TheVariants.{Choose, Less, Or, Resize}
+use Rattle.hw_net.specs.declared.netlist.NetOp.TheVariants.{Choose, Less, Not, Or, Resize}
 use Rattle.hw_net.specs.Products.{net_at}
-use Rattle.hw_fold.specs.inner.Passing.{IsBit, IsCopyOf, IsJoin, IsPick, IsSameChoice, IsSign, Passes}
+use Rattle.hw_fold.specs.inner.Passing.{IsBit, IsBitNet, IsComparedBits, IsCopyOf, IsJoin, IsKnown, IsPick, IsResizedBit, IsSameChoice, IsSign, IsTurnedBit, Passes}
 use Rattle.hw_fold.specs.inner.Roots.{CanShow, IsPassed}
 
 own-wrapped : (v : ℤ) (w : ℕ) (s : Bool) → InWord w s v → IsWrapped v w s v
@@ -57,6 +57,17 @@ sign-wrapped z (pos (suc zero)) is none = subst (λ (v : ℤ). IsWrapped (truth 
 sign-wrapped z (pos (suc (suc n))) is none = absurd (let h = is.high in omega (arith, ints, h))
 sign-wrapped z (negsuc n) is none = absurd (let h = is.low in omega (arith, ints, h))
 
+-- the inverse of a bit, in one bit
+turned-wrapped : (z x : ℤ) (bit : Bool) → z ≡ truth (not bit) → x ≡ truth bit → InWord 1 false x → IsWrapped (negsuc 0 -ℤ z) 1 false x
+turned-wrapped z x true e f is = record { in_word = is; congruent = record { turns = pos 1; equal = omega (arith, ints, e, f) } }
+turned-wrapped z x false e f is = record { in_word = is; congruent = record { turns = pos 1; equal = omega (arith, ints, e, f) } }
+
+bits-compared : (a b : Bool) → truth (not a && b) ≡ truth (int_lt (truth a) (truth b))
+bits-compared true true = refl
+bits-compared true false = refl
+bits-compared false true = refl
+bits-compared false false = refl
+
 module _ (nets : List Net) (root : ℕ → ℕ) where
   abbrev at : ℕ → Net
   at j = net_at nets j
@@ -64,7 +75,7 @@ module _ (nets : List Net) (root : ℕ → ℕ) where
   bit-shown : (k : ℕ) (bit : Bool) → IsBit nets root k bit → (shown : ℕ → ℤ) → CanShow nets shown → shown (root k) ≡ truth bit
   bit-shown k bit is shown can =
       wrapped-is (truth bit) (at (root k)).width (at (root k)).signed (shown (root k)) (can.words (root k) is.inside)
-      (bit-in (at (root k)).width (at (root k)).signed bit (can.words (root k) is.inside)) (can.constants (root k) (truth bit) is.args is.inside is.is)
+      (bit-in (at (root k)).width (at (root k)).signed bit (can.words (root k) is.inside)) (can.constants (root k) (truth bit) is.constant.args is.inside is.constant.is)
 
   module _ (k read : ℕ) (inside : root read < length nets) (wide : (at (root read)).width ≡ (at k).width) (sign : (at (root read)).signed ≡ (at k).signed) where
     own : (shown : ℕ → ℤ) → CanShow nets shown → InWord (at k).width (at k).signed (shown (root read))
@@ -134,3 +145,56 @@ module _ (nets : List Net) (root : ℕ → ℕ) where
     passes (inr (inr (inl c))) = pick c
     passes (inr (inr (inr (inl c)))) = join c
     passes (inr (inr (inr (inr c)))) = tells c
+
+  -- a net that shows always the bit that the other is
+  module _ (k other : ℕ) (bit : Bool) (inside : other < length nets) (wide : (at other).width ≡ (at k).width) (sign : (at other).signed ≡ (at k).signed) (is-bit : IsBitNet (at other) bit) where
+    bit-there : (shown : ℕ → ℤ) → CanShow nets shown → IsWrapped (truth bit) (at k).width (at k).signed (shown other)
+    bit-there shown can =
+        subst (λ (s : Bool). IsWrapped (truth bit) (at k).width s (shown other)) sign (subst (λ (w : ℕ). IsWrapped (truth bit) w (at other).signed (shown other)) wide
+        (can.constants other (truth bit) is-bit.args inside is-bit.is))
+
+    resized : IsResizedBit nets root (at k) bit → IsPassed nets root k other
+    resized c = record {
+      op = Resize;
+      args = c.read ∷ [];
+      is = c.is;
+      reads = omega arith;
+      gives = λ inputs shown can. subst (λ (v : ℤ). IsWrapped v (at k).width (at k).signed (shown other)) (sym (bit-shown c.read bit c.constant shown can)) (bit-there shown can);
+    }
+
+    turned : IsTurnedBit nets root (at k) bit → IsPassed nets root k other
+    turned c = record {
+      op = Not;
+      args = c.read ∷ [];
+      is = c.is;
+      reads = omega arith;
+      gives = λ inputs shown can.
+          let z = shown (root c.read) in
+          let x = shown other in
+          let there : IsWrapped (truth bit) 1 false x = subst (λ (s : Bool). IsWrapped (truth bit) 1 s x) c.sign
+          (subst (λ (w : ℕ). IsWrapped (truth bit) w (at k).signed x) c.wide (bit-there shown can)) in
+          let word : IsWord 1 false = (omega arith, omega arith) in
+          let same : x ≡ truth bit = wrapped-is (truth bit) 1 false x word (bit-in 1 false bit word) there in
+          subst (λ (s : Bool). IsWrapped (negsuc 0 -ℤ z) (at k).width s x) (sym c.sign)
+          (subst (λ (w : ℕ). IsWrapped (negsuc 0 -ℤ z) w false x) (sym c.wide)
+          (turned-wrapped z x bit (bit-shown c.read (not bit) c.constant shown can) same there.in_word));
+    }
+
+    compared : IsComparedBits nets root (at k) bit → IsPassed nets root k other
+    compared c = record {
+      op = Less;
+      args = c.one ∷ c.second ∷ [];
+      is = c.is;
+      reads = omega arith;
+      gives = λ inputs shown can.
+          let e : truth bit ≡ truth (int_lt (shown (root c.one)) (shown (root c.second))) =
+          ap truth c.compared ∙ bits-compared c.first_bit c.second_bit
+          ∙ sym (ap (λ (v : ℤ). truth (int_lt v (truth c.second_bit))) (bit-shown c.one c.first_bit c.first shown can))
+          ∙ sym (ap (λ (v : ℤ). truth (int_lt (shown (root c.one)) v)) (bit-shown c.second c.second_bit c.other shown can)) in
+          subst (λ (v : ℤ). IsWrapped v (at k).width (at k).signed (shown other)) e (bit-there shown can);
+    }
+
+    pub known : IsKnown nets root (at k) bit → IsPassed nets root k other
+    known (inl c) = resized c
+    known (inr (inl c)) = turned c
+    known (inr (inr c)) = compared c

@@ -68,10 +68,20 @@ impl Key {
     }
 }
 
+/// The key of a net's word.
+fn key_of_word(net: &Net) -> Key {
+    let start = Key { hash: 0, value: 0 };
+    start.with(u64::from(net.width)).with(u64::from(net.signed))
+}
+
+/// The key of the constant 0 or 1 in a net's word.
+pub fn key_of_bit(net: &Net, bit: bool) -> Key {
+    key_of_word(net).operating(NetOp::Const(i128::from(bit)))
+}
+
 /// The key of a net.
 pub fn key_of(net: &Net, roots: &[u32]) -> Key {
-    let start = Key { hash: 0, value: 0 };
-    let word = start.with(u64::from(net.width)).with(u64::from(net.signed));
+    let word = key_of_word(net);
     match &net.kind {
         NetKind::Comb { op, args } => word.operating(*op).reading(args.as_slice(), roots),
         NetKind::Reg {

@@ -1,7 +1,7 @@
 //! Nets that show what a net that they read shows.
 ghost use Rattle.std.specs.Prelude.{◌≡◌, if◌then◌else◌, MatchOption, ⊤};
 ghost use Rattle.hw_renumber.specs.Renumbered.{place_in};
-ghost use Rattle.hw_fold.specs.inner.Passing.{IsBit, IsCopyOf, IsJoin, IsPick, IsSameChoice, IsSign};
+ghost use Rattle.hw_fold.specs.inner.Passing.{IsBit, IsBitNet, IsCopyOf, IsJoin, IsPick, IsSameChoice, IsSign};
 ghost use Rattle.hw_fold.specs.inner.Passing.{Passes};
 
 use hw_net::{Net, NetKind, NetOp};
@@ -16,13 +16,10 @@ pub fn root_of(net: u32, roots: &[u32]) -> u32
     }
 }
 
-/// Which bit a net shows always, if what stands for it is the constant 0 or 1.
-fn bit_of(nets: &[Net], roots: &[u32], k: u32) -> Option<bool>
-    ensures { MatchOption result ⊤ (IsBit nets.now (place_in roots.now) k) }
+/// Which bit a net is, if it is the constant 0 or 1.
+pub fn bit_net(net: &Net) -> Option<bool>
+    ensures { MatchOption result ⊤ (IsBitNet net.now) }
 {
-    let Some(net) = nets.get(root_of(k, roots) as usize) else {
-        return None;
-    };
     match &net.kind {
         NetKind::Comb {
             op: NetOp::Const(0),
@@ -34,6 +31,16 @@ fn bit_of(nets: &[Net], roots: &[u32], k: u32) -> Option<bool>
         } => Some(true),
         _ => None,
     }
+}
+
+/// Which bit a net shows always, if what stands for it is the constant 0 or 1.
+pub fn bit_of(nets: &[Net], roots: &[u32], k: u32) -> Option<bool>
+    ensures { MatchOption result ⊤ (IsBit nets.now (place_in roots.now) k) }
+{
+    let Some(net) = nets.get(root_of(k, roots) as usize) else {
+        return None;
+    };
+    bit_net(net)
 }
 
 /// The net that a net only resizes.

@@ -1,13 +1,16 @@
 //! Which net stands for each.
 ghost use Rattle.std.specs.Prelude.{◌≡◌, ◌<◌, IfOk, true, false, length, MatchOption, ⊤};
 ghost use Rattle.hw_renumber.specs.Renumbered.{place_in};
+ghost use Rattle.hw_net.specs.Products.{net_at};
 ghost use Rattle.hw_fold.specs.inner.Fold.{IsOpen};
+ghost use Rattle.hw_fold.specs.inner.Passing.{IsBitNet};
 ghost use Rattle.hw_fold.specs.inner.Pins.{is_marked};
 ghost use Rattle.hw_fold.specs.inner.Roots.{fold_of, HasSizes, IsRoot, IsFound, StandsFor};
 
 use crate::alike::is_alike;
-use crate::key::{Key, key_of};
-use crate::passing::{passed, root_of};
+use crate::key::{Key, key_of, key_of_bit};
+use crate::knowing::known_bit;
+use crate::passing::{bit_net, passed, root_of};
 use fx_io::OutOfMemory;
 use hw_net::Net;
 use std::collections::BTreeMap;
@@ -44,6 +47,17 @@ fn can_stand(nets: &[Net], alone: &[bool], roots: &[u32], done: &[bool], k: u32,
     is_free(alone, roots, done, other) && have_one_word(&nets[other as usize], &nets[k as usize])
 }
 
+/// Whether a net is that bit.
+fn is_bit(nets: &[Net], k: u32, bit: bool) -> bool
+    requires inside { k < length nets.now }
+    ensures { result ≡ true → IsBitNet (net_at nets.now k) bit }
+{
+    match bit_net(&nets[k as usize]) {
+        Some(other) => other == bit,
+        None => false,
+    }
+}
+
 /// What stands for a net whose number a net passes on, if it may stand for that net too.
 fn shown(nets: &[Net], alone: &[bool], roots: &[u32], done: &[bool], k: u32) -> Option<u32>
     requires sizes { HasSizes (fold_of nets.now alone.now roots.now done.now) }
@@ -55,6 +69,33 @@ fn shown(nets: &[Net], alone: &[bool], roots: &[u32], done: &[bool], k: u32) -> 
     };
     let other = root_of(read, roots);
     if can_stand(nets, alone, roots, done, k, other) {
+        Some(other)
+    } else {
+        None
+    }
+}
+
+/// The net that is known as the constant bit that a net shows always, if it may stand for that net.
+fn constant(
+    nets: &[Net],
+    alone: &[bool],
+    roots: &[u32],
+    done: &[bool],
+    known: &BTreeMap<Key, u32>,
+    k: u32,
+) -> Option<u32>
+    requires sizes { HasSizes (fold_of nets.now alone.now roots.now done.now) }
+    requires inside { k < length nets.now }
+    ensures { MatchOption result ⊤ (IsFound (fold_of nets.now alone.now roots.now done.now) k) }
+{
+    let net = &nets[k as usize];
+    let Some(bit) = known_bit(nets, net, roots) else {
+        return None;
+    };
+    let Some(other) = known.get(&key_of_bit(net, bit)).copied() else {
+        return None;
+    };
+    if can_stand(nets, alone, roots, done, k, other) && is_bit(nets, other, bit) {
         Some(other)
     } else {
         None
@@ -101,6 +142,9 @@ fn found(
         (IsFound (fold_of nets.now alone.now roots.now done.now) k)) }
 {
     if let Some(other) = shown(nets, alone, roots, done, k) {
+        return Ok(Some(other));
+    }
+    if let Some(other) = constant(nets, alone, roots, done, known, k) {
         return Ok(Some(other));
     }
     let key = key_of(&nets[k as usize], roots);

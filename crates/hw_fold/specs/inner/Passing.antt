@@ -1,16 +1,21 @@
 -- Which nets show what a net that they read shows.
-use Rattle.std.specs.Prelude.{◌≡◌, ℕ, ◌<◌, ◌⊎◌, Bool, false, if◌then◌else◌, List, [], ◌∷◌, length}
+use Rattle.std.specs.Prelude.{◌≡◌, ℕ, ◌<◌, ◌⊎◌, ◌&&◌, Bool, false, not, if◌then◌else◌}
+use Rattle.std.specs.Prelude.{List, [], ◌∷◌, length}
 use Rattle.math_num.specs.Bits.{truth}
 use Rattle.hw_net.specs.declared.netlist.Net.{Net}
 use Rattle.hw_net.specs.declared.netlist.NetKind.TheVariants.{Comb}
-use Rattle.hw_net.specs.declared.netlist.NetOp.TheVariants.{Choose, Const, Less, Or, Resize}
+use Rattle.hw_net.specs.declared.netlist.NetOp.TheVariants.{Choose, Const, Less, Not, Or, Resize}
 use Rattle.hw_net.specs.Products.{net_at}
+
+-- the net is the constant 0 or 1
+pub record IsBitNet (net : Net) (bit : Bool) : Type 0 where
+  pub args : List ℕ
+  pub is : net.kind ≡ Comb (Const (truth bit)) args
 
 -- what stands for the net is the constant 0 or 1
 pub record IsBit (nets : List Net) (root : ℕ → ℕ) (k : ℕ) (bit : Bool) : Type 0 where
-  pub args : List ℕ
   pub inside : root k < length nets
-  pub is : (net_at nets (root k)).kind ≡ Comb (Const (truth bit)) args
+  pub constant : IsBitNet (net_at nets (root k)) bit
 
 -- the net only resizes the other
 abbrev pub IsCopyOf : Net → ℕ → Type 0
@@ -52,3 +57,34 @@ abbrev pub Passes : List Net → (ℕ → ℕ) → Net → ℕ → Type 0
 Passes nets root net read =
     IsCopyOf net read ⊎ (IsSameChoice root net read ⊎ (IsPick nets root net read
     ⊎ (IsJoin nets root net read ⊎ IsSign nets root net read)))
+
+-- the net resizes a constant bit
+pub record IsResizedBit (nets : List Net) (root : ℕ → ℕ) (net : Net) (bit : Bool) : Type 0 where
+  pub read : ℕ
+  pub is : net.kind ≡ Comb Resize (read ∷ [])
+  pub constant : IsBit nets root read bit
+
+-- the net is one bit, the inverse of a constant
+pub record IsTurnedBit (nets : List Net) (root : ℕ → ℕ) (net : Net) (bit : Bool) : Type 0 where
+  pub read : ℕ
+  pub is : net.kind ≡ Comb Not (read ∷ [])
+  pub constant : IsBit nets root read (not bit)
+  pub wide : net.width ≡ 1
+  pub sign : net.signed ≡ false
+
+-- the net compares two constant bits
+pub record IsComparedBits (nets : List Net) (root : ℕ → ℕ) (net : Net) (bit : Bool) : Type 0 where
+  pub one : ℕ
+  pub second : ℕ
+  pub first_bit : Bool
+  pub second_bit : Bool
+  pub is : net.kind ≡ Comb Less (one ∷ second ∷ [])
+  pub first : IsBit nets root one first_bit
+  pub other : IsBit nets root second second_bit
+  pub compared : bit ≡ (not first_bit && second_bit)
+
+-- by one of these rules the net shows the bit always
+abbrev pub IsKnown : List Net → (ℕ → ℕ) → Net → Bool → Type 0
+IsKnown nets root net bit =
+    IsResizedBit nets root net bit
+    ⊎ (IsTurnedBit nets root net bit ⊎ IsComparedBits nets root net bit)
