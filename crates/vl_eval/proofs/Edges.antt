@@ -1,5 +1,5 @@
 -- What is captured, then put in and then swept is the row after an edge.
-use Rattle.std.proofs.Common.{◌≡◌, ◌<◌, ◌≤◌, ◌^◌, ◌==◌, inl, inr, ◌⊎◌, ⊎_elim, ℕ, Bool, true, false, not, ◌&&◌, if◌then◌else◌, List, length, take, slice_get, slice_index, codes, bytes_eq, Contains}
+use Rattle.std.proofs.Common.{◌≡◌, ◌<◌, ◌^◌, ◌==◌, inl, inr, ◌⊎◌, ⊎_elim, ℕ, Bool, true, false, not, ◌&&◌, if◌then◌else◌, List, length, take, slice_get, slice_index, codes, bytes_eq, Contains}
 use Rattle.std.proofs.Common.{Option, None, Some, refl, sym, ap, subst, ◌∙◌, arith}
 use Rattle.std.proofs.lemmas.Bool.{cases_Bool, false≢true}
 use Rattle.std.specs.List.{position}
@@ -122,27 +122,6 @@ module _ (by_layer : ByLayer) (m : Module) (b : BreaksNone m) (scope : Scope) (s
         (input-fixed by_layer m b scope s plan p a.0 d.0 d.1) (sym same ∙ a.2) in
         absurd (false≢true (sym d.2 ∙ subst (λ n. bytes_eq n (codes "clk") ≡ true) named clk)))
         ∙ input-taken port h i
-
-    -- the operations' places stay
-    pub ops-stay : (place : ℕ) → plan.base ≤ place → slice_index v2 place ≡ slice_index v0 place
-    ops-stay place above =
-        put.others place (λ k low same.
-        let a = place-at by_layer m b scope s plan p k low in
-        let d = driven-in by_layer m b scope s plan p k a.0 a.1 in
-        let c = fixed-slot by_layer m b scope s plan p a.0.name (input-known by_layer m b scope s plan p a.0 d.0) (input-fixed by_layer m b scope s plan p a.0 d.0 d.1) in
-        let there = a.2 in let number = c.2 in let below = c.3 in let base = p.base in
-        omega (arith, there, number, below, base, above, same))
-        ∙ by (taken.each place)
-      where
-        by : (IsFree plan.arranged.captures.items place × (slice_index v1 place ≡ slice_index v0 place))
-            ⊎ ((c : Capture) × Contains plan.arranged.captures.items c × (c.to ≡ place) × (slice_index v1 place ≡ slice_index v0 c.from))
-            → slice_index v1 place ≡ slice_index v0 place
-        by (inl (free, same)) = same
-        by (inr (c, inside, to, same)) =
-            let r = p.captured.only c inside in
-            let a = fixed-slot by_layer m b scope s plan p r.0 (register-known by_layer m b scope s plan p r.0 r.1 r.2 r.3 r.4) (register-fixed by_layer m b scope s plan p r.0 r.1 r.2 r.3 r.4) in
-            let there = r.5.to in let number = a.2 in let below = a.3 in let base = p.base in
-            absurd (omega (arith, to, there, number, below, base, above))
 
     module _ (fit : AreFit (driven_ports m) bits) where
       driven-put : (port : Port) → Contains m.ports port → port.input ≡ true → bytes_eq port.name (codes "clk") ≡ false

@@ -2,6 +2,7 @@ pub mod Assigns
 pub mod Bias
 pub mod Builds
 pub mod Captures
+pub mod Chains
 pub mod Copies
 pub mod EdgeBits
 pub mod Edges
@@ -10,7 +11,9 @@ pub mod Forms
 pub mod Halves
 pub mod LongerLists
 pub mod LoopLists
+pub mod Marked
 pub mod Merges
+pub mod Moves
 pub mod Numbers
 pub mod Operands
 pub mod Outputs
@@ -21,6 +24,7 @@ pub mod ScopeNumbers
 pub mod SideBySide
 pub mod SortOrder
 pub mod Sounds
+pub mod Spares
 pub mod StablePlaces
 pub mod Sweep
 pub mod Wires

@@ -23,10 +23,12 @@ use Rattle.vl_check.proofs.ScopeNames.{at-number}
 use Rattle.vl_check.specs.declared.scope.Scope.{Scope}
 use Rattle.vl_check.specs.Scope.{IsScopeOf, names_in, nets_in, number_in}
 use Rattle.vl_eval.specs.Given.{driven_ports}
+use Rattle.vl_eval.specs.Machine.{AreFit}
 use Rattle.vl_eval.specs.declared.ops.Op.{Op}
 use Rattle.vl_eval.specs.declared.plan.Capture.{Capture}
 use Rattle.vl_eval.specs.declared.plan.Plan.{Plan}
-use Rattle.vl_eval.specs.inner.Ops.{IsSettled}
+use Rattle.vl_eval.specs.inner.Ops.{IsOrdered, IsSettled}
+use Rattle.vl_eval.specs.inner.Moves.{CanMove}
 use Rattle.vl_eval.specs.inner.PlanOperations.{FixedFit, IsFixed, IsPlan, slot_of_port}
 use Rattle.vl_eval.specs.inner.Site.{slot_at, slot_in}
 use Rattle.vl_eval.proofs.Builds.{settled-later}
@@ -185,24 +187,31 @@ module _ (by_layer : ByLayer) (m : Module) (b : BreaksNone m) (scope : Scope) (s
       (filtered-apart (λ (x : Port). x.input && not (bytes_eq x.name (codes "clk"))) m.ports (ports-apart m b.acyclic.driven b.acyclic.once)).at i j one.0 other.0 less one.1 other.1
       (one-slot one.0.name other.0.name (input-known one.0 d.0) (input-known other.0 d'.0) (input-fixed one.0 d.0 d.1) (input-fixed other.0 d'.0 d'.1) (sym one.2 ∙ same ∙ other.2))
 
-  pub places-within : (values : List ℕ) → length values ≡ plan.base + length ops → (k : ℕ) → k < length plan.inputs.items → slice_index plan.inputs.items k < length values
-  places-within values room k low =
+  pub inputs-placed : (k : ℕ) → k < length plan.inputs.items → slice_index plan.inputs.items k < plan.base
+  inputs-placed k low =
       let a = place-at k low in
       let d = driven-in k a.0 a.1 in
       let c = fixed-slot a.0.name (input-known a.0 d.0) (input-fixed a.0 d.0 d.1) in
       let place = a.2 in let number = c.2 in let below = c.3 in let base = p.base in
-      omega (arith, place, number, below, base, room)
+      omega (arith, place, number, below, base)
 
-  pub captures-within : (values : List ℕ) → length values ≡ plan.base + length ops → (c : Capture) → Contains plan.arranged.captures.items c → (c.from < length values) × (c.to < length values)
-  captures-within values room c h =
+  pub captures-placed : (values : List ℕ) → length values ≡ plan.base + length ops → (c : Capture) → Contains plan.arranged.captures.items c
+      → (plan.base ≤ c.from) × (c.from < length values) × (c.to < plan.base)
+  captures-placed values room c h =
       let r = p.captured.only c h in
       let a = fixed-slot r.0 (register-known r.0 r.1 r.2 r.3 r.4) (register-fixed r.0 r.1 r.2 r.3 r.4) in
-      let from = r.5.below in let to = r.5.to in let number = a.2 in let below = a.3 in let base = p.base in
-      (omega (arith, from, base, room), omega (arith, to, number, below, base, room))
+      let above = r.5.above in let from = r.5.below in let to = r.5.to in let number = a.2 in let below = a.3 in let base = p.base in
+      (omega (arith, above, base), omega (arith, from, base, room), omega (arith, to, number, below, base))
 
-  pub captures-apart : (c d : Capture) → Contains plan.arranged.captures.items c → Contains plan.arranged.captures.items d → c.to ≢ d.from
-  captures-apart c d h k same =
-      let r = p.captured.only c h in
-      let a = fixed-slot r.0 (register-known r.0 r.1 r.2 r.3 r.4) (register-fixed r.0 r.1 r.2 r.3 r.4) in
-      let to = r.5.to in let number = a.2 in let below = a.3 in let above = (p.captured.only d k).5.above in
-      omega (arith, to, number, below, above, same)
+  -- a row can be moved on
+  pub can-move : (values bits : List ℕ) → length values ≡ plan.base + length ops → IsSettledIn plan values → AreFit (driven_ports m) bits → CanMove plan bits values
+  can-move values bits room st fit = record {
+    room = room;
+    ordered = subst (λ n. IsOrdered n ops) (sym p.base) (p.captured.grows.ordered (p.wired.grows.ordered (record { at = λ k d low. absurd (omega (arith, low)) })));
+    constants = p.constants;
+    settled = st;
+    captures = captures-placed values room;
+    count = fit.count ∙ sym (ap length p.inputs ∙ length-map (driven_ports m) (slot_of_port scope slots));
+    inputs = inputs-placed;
+    apart = places-apart;
+  }

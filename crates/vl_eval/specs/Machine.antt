@@ -1,5 +1,5 @@
 -- The row that a machine is in, and what it keeps from one row to the next.
-use Rattle.std.specs.Prelude.{◌≡◌, ℕ, ◌+◌, ◌^◌, ◌<◌, true, List, length, position, slice_get, slice_index, bytes_eq, codes, Contains, Some}
+use Rattle.std.specs.Prelude.{◌≡◌, ℕ, ◌+◌, ◌^◌, ◌<◌, true, List, length, position, slice_get, slice_index, bytes_eq, codes, Contains, IfSome, Some}
 use Rattle.vl_ast.specs.declared.modules.Port.{Port}
 use Rattle.vl_ast.specs.declared.modules.Module.{Module}
 use Rattle.vl_ast.specs.Nets.{Declared, declarations}
@@ -7,6 +7,7 @@ use Rattle.vl_ast.specs.Runs.{Row}
 use Rattle.vl_check.specs.Names.{names_of}
 use Rattle.vl_eval.specs.declared.machine.Machine.{Machine}
 use Rattle.vl_eval.specs.declared.machine.Snapshot.{Snapshot}
+use Rattle.vl_eval.specs.inner.Moves.{IsWatch}
 use Rattle.vl_eval.specs.inner.Ops.{IsSettled}
 use Rattle.vl_eval.specs.inner.PlanOperations.{IsPlanOf}
 use Rattle.vl_eval.specs.inner.Site.{slot_at}
@@ -40,6 +41,7 @@ pub record IsReady (machine : Machine) : Type 0 where
       → row_of machine declared.name < 2 ^ declared.net.width
   pub still : (port : Port) → Contains machine.source.ports port → port.input ≡ true
       → bytes_eq port.name (codes "clk") ≡ true → row_of machine port.name ≡ 0
+  pub watched : IfSome machine.watch (IsWatch machine.plan)
 
 -- a snapshot has room for the values of the machine (own)
 abbrev pub HasRoom : Machine → Snapshot → Type 0

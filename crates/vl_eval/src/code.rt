@@ -1,9 +1,9 @@
 ghost use Rattle.std.specs.Prelude.{◌≡◌, ◌<◌, ◌++◌, ◌∷◌, ◌+◌, [], OnOk, length, slice_index, slice_index_or, take};
 ghost use Rattle.vl_eval.specs.declared.ops.Op.{Op};
-ghost use Rattle.vl_eval.specs.inner.Ops.{AreSettled, IsOrdered, IsSettled};
+ghost use Rattle.vl_eval.specs.inner.Ops.{AreSettled, IsOrdered, IsSettled, op_value, reads_below};
 ghost use Rattle.vl_eval.specs.inner.Steps.{AreConstants, AreWithin, IsWithin, is_constant, op_in, ops_of};
 
-use crate::ops::{OneOp, Op, Register, TwoOp};
+use crate::ops::{OneOp, Op, Register, TwoOp, value_of};
 use crate::steps::{Pair, Step, narrow};
 use crate::sweeping::sweep;
 use fx_io::OutOfMemory;
@@ -147,6 +147,18 @@ impl Code {
         ensures { result ≡ slice_index_or self.now place (Op.Constant 0) }
     {
         op_in(self.steps[place], self.wide.as_slice())
+    }
+
+    /// What an operation gives. It is worked out by its long form, so that `sweep` alone has that of steps
+    /// within itself.
+    pub fn value(&self, place: usize, values: &[u128]) -> u128
+        requires within { place < length self.now }
+        requires reads { reads_below (slice_index_or self.now place (Op.Constant 0))
+            (length values.now) }
+        ensures { result ≡ op_value (slice_index_or self.now place (Op.Constant 0))
+            (λ k. slice_index values.now k) }
+    {
+        value_of(self.get(place), values)
     }
 
     /// Works out the operations from the number `from` on in one sweep, each into its place after the

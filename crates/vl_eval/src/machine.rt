@@ -1,4 +1,4 @@
-ghost use Rattle.std.specs.Prelude.{◌≡◌, ◌≢◌, ◌<◌, ◌≤◌, ◌^◌, ℕ, true, IfErr, IfOk, Contains, length, slice_get, slice_index};
+ghost use Rattle.std.specs.Prelude.{◌≡◌, ◌<◌, ◌≤◌, ◌^◌, true, IfErr, IfOk, IfSome, length, slice_get};
 ghost use Rattle.vl_ast.specs.declared.modules.Port.{Port};
 ghost use Rattle.vl_ast.specs.Conditions.{BreaksNone};
 ghost use Rattle.vl_ast.specs.Driven.{output_ports, port_number};
@@ -6,12 +6,13 @@ ghost use Rattle.vl_ast.specs.Steps.{IsEdge, IsFirstRow};
 ghost use Rattle.vl_ast.specs.Value.{number_of};
 ghost use Rattle.vl_check.specs.Cause.{IsCause};
 ghost use Rattle.vl_eval.specs.Given.{driven_ports, given};
-ghost use Rattle.vl_eval.specs.declared.plan.Capture.{Capture};
-ghost use Rattle.vl_eval.specs.inner.Edges.{IsFirst, IsPut, IsTaken};
+ghost use Rattle.vl_eval.specs.inner.Edges.{IsFirst};
+ghost use Rattle.vl_eval.specs.inner.Moves.{IsWatch};
 ghost use Rattle.vl_eval.specs.inner.Ops.{IsOrdered};
 
 use crate::operators::half_of;
-use crate::plan::{Capture, Output, Plan, plan_of};
+use crate::plan::{Output, Plan, plan_of};
+use crate::watching::{Watch, move_on, watch_of};
 use fx_io::OutOfMemory;
 use std::alloc::Global;
 use vl_ast::{Module, mask_of, meaning_by_layer};
@@ -25,6 +26,7 @@ pub struct Machine {
     plan: Plan,
     /// The values of the input ports and registers, and then of the operations.
     values: Vec<u128>,
+    watch: Option<Watch>,
 }
 
 /// The values of a machine in a row of its run.
@@ -47,34 +49,6 @@ fn first_values(alloc: Global, plan: &Plan) -> Result<Vec<u128>, OutOfMemory>
     Ok(values)
 }
 
-/// Captures what the registers take: each value at a `from` goes to its `to`.
-fn capture(captures: &[Capture], values: &mut [u128])
-    requires within { (c : Capture) → Contains captures.now c → (c.from < length values.old)
-        × (c.to < length values.old) }
-    requires apart { (c d : Capture) → Contains captures.now c → Contains captures.now d
-        → c.to ≢ d.from }
-    ensures { IsTaken captures.now values.old values.new }
-{
-    for capture in captures {
-        let Capture { from, to } = *capture;
-        values[to] = values[from];
-    }
-}
-
-/// Puts the bits of the input ports to their places.
-fn put(places: &[usize], bits: &[u128], values: &mut [u128])
-    requires count { length bits.now ≡ length places.now }
-    requires within { (k : ℕ) → k < length places.now
-        → slice_index places.now k < length values.old }
-    requires apart { (i j : ℕ) → i < j → j < length places.now
-        → slice_index places.now i ≢ slice_index places.now j }
-    ensures { IsPut places.now bits.now values.old values.new }
-{
-    for k in 0..places.len() {
-        values[places[k]] = bits[k];
-    }
-}
-
 /// The number of a word, by two's complement where it is signed.
 fn number_in(bits: u128, width: u32, signed: bool) -> i128
     requires most { width ≤ 128 }
@@ -87,6 +61,25 @@ fn number_in(bits: u128, width: u32, signed: bool) -> i128
     } else {
         bits as i128
     }
+}
+
+/// What a machine begins with.
+#[derive(Drop)]
+struct Start {
+    values: Vec<u128>,
+    watch: Option<Watch>,
+}
+
+/// The values of row 0, and a watch.
+fn begin(alloc: Global, plan: &Plan) -> Result<Start, OutOfMemory>
+    requires { IsOrdered plan.now.base plan.now.arranged.ops }
+    ensures values { IfOk result (λ start. IsFirst plan.now.base plan.now.arranged.ops
+        start.values.items) }
+    ensures watch { IfOk result (λ start. IfSome start.watch (IsWatch plan.now)) }
+{
+    let values = first_values(alloc, plan)?;
+    let watch = watch_of(alloc, plan)?;
+    Ok(Start { values, watch })
 }
 
 impl Machine {
@@ -116,11 +109,12 @@ impl Machine {
                 return Err(fault);
             }
         };
-        match first_values(alloc, &plan) {
-            Ok(values) => Ok(Machine {
+        match begin(alloc, &plan) {
+            Ok(Start { values, watch }) => Ok(Machine {
                 source,
                 plan,
                 values,
+                watch,
             }),
             Err(wanting) => {
                 drop(plan);
@@ -143,13 +137,12 @@ impl Machine {
             → IsKept self.new snapshot row }
     {
         meaning_by_layer();
-        let values = self.values.as_mut_slice();
-        capture(self.plan.arranged.captures.as_slice(), values);
-        put(self.plan.inputs.as_slice(), inputs, values);
-        self.plan
-            .arranged
-            .ops
-            .sweep(self.plan.base, self.plan.constants, values);
+        move_on(
+            &self.plan,
+            &mut self.watch,
+            inputs,
+            self.values.as_mut_slice(),
+        );
     }
 
     /// A snapshot of the row.
@@ -211,9 +204,11 @@ impl Machine {
             source,
             plan,
             values,
+            watch,
         } = self;
         drop(plan);
         drop(values);
+        drop(watch);
         source.discard();
     }
 

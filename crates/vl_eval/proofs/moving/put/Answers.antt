@@ -2,7 +2,7 @@ use Rattle.std.proofs.Common.{◌≡◌, ◌<◌, ◌++◌, ◌∷◌, [], lengt
 use Rattle.std.proofs.lemmas.List.{get_or-take, length-take-le, take_all, take_more}
 use Rattle.vl_eval.specs.inner.Edges.{IsPut}
 use Rattle.vl_eval.proofs.Puts.{put-more, put-none}
-use Rattle.vl_eval.proofs.machine.put.Goals as goal
+use Rattle.vl_eval.proofs.moving.put.Goals as goal
 
 pub loop-k-preserved : goal.loop-k-preserved
 loop-k-preserved c =

@@ -4,8 +4,8 @@ use Rattle.std.proofs.lemmas.List.Elements.{Contains-append_left}
 use Rattle.vl_eval.specs.declared.plan.Capture.{Capture}
 use Rattle.vl_eval.specs.inner.Edges.{IsTaken}
 use Rattle.vl_eval.proofs.Puts.{capture-in, taken-more}
-use Rattle.vl_eval.proofs.machine.capture.Goals as goal
-use Rattle.vl_eval.proofs.machine.capture.Goals.{In-loop-capture}
+use Rattle.vl_eval.proofs.moving.capture.Goals as goal
+use Rattle.vl_eval.proofs.moving.capture.Goals.{In-loop-capture}
 
 -- the places of the capture that a turn takes
 below : (c : In-loop-capture) → let here =
