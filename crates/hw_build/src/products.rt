@@ -67,6 +67,7 @@ pub fn products_of<'a>(
     hw_sched::units_are_used();
     let mut operations = Vec::new(alloc);
     let firsts = gather(alloc, net, design, operands, &mut operations)?;
-    let results = units(alloc, net, operations.as_slice())?;
+    let shared = units(alloc, net, operations.as_slice())?;
+    let results = shared.results;
     Ok(Products { firsts, results })
 }

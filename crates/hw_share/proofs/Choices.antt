@@ -97,6 +97,7 @@ module _ (tells : CounterIsTelling) (a b : Circuit) (frame : Frame) (slot : ℕ)
     test-is = record {
       shows = test-shows;
       there = record { net = equal; is = ap (slice_get d.nets) last ∙ put-there c d equal more; word = bit-word };
+      bit = record { net = equal; is = ap (slice_get d.nets) last ∙ put-there c d equal more; wide = refl; sign = refl };
       new = omega (arith, last, long, longer a b begun.appends.extends);
     }
 

@@ -1,6 +1,5 @@
 -- Tests for clocks stay, and one more is known.
 use Rattle.std.proofs.Common.{◌≡◌, ℕ, Bool, true, false, ◌==◌, nat_lt, List, [], Some, if◌then◌else◌, sym, ◌∙◌, subst, refl, arith}
-use Rattle.std.specs.Prelude.{◌&&◌}
 use Rattle.std.specs.Cmp.{tied_then}
 use Rattle.std.specs.Ordering.{nat_cmp, is_eq}
 use Rattle.std.proofs.lemmas.Bool.{and_parts, eqb-true}
@@ -11,7 +10,7 @@ use Rattle.hw_net.specs.declared.netlist.Frame.{Frame}
 use Rattle.hw_net.specs.Circuit.{Circuit}
 use Rattle.hw_net.specs.NetRows.{span_of}
 use Rattle.hw_net.specs.Growing.{Extends, InRows}
-use Rattle.hw_net.proofs.Growth.{longer, in-rows-first, in-rows-last}
+use Rattle.hw_net.proofs.Growth.{longer, word-stays, in-rows-first, in-rows-last}
 use Rattle.hw_net.proofs.Index.{same-frame, same-is}
 use Rattle.hw_share.specs.declared.moments.Moment.{Moment}
 use Rattle.hw_share.specs.inner.Choices.{Tests, IsTestAt}
@@ -22,15 +21,17 @@ pub test-later : (before now later : Circuit) (frame : Frame) (slot number : ℕ
 test-later before now later frame slot number p is = record {
   shows = in-rows-first before now later (λ n rows. Tests n (span_of before.cycles frame) slot (rows number)) p is.shows;
   there = there-later now later number p is.there;
+  bit = word-stays now later number 1 false p is.bit;
   new = is.new;
 }
 
 -- a test that was put in behind more nets
-test-before : (before now later : Circuit) (frame : Frame) (slot number : ℕ) → Extends before now → IsTestAt now later frame slot number → IsTestAt before later frame slot number
+pub test-before : (before now later : Circuit) (frame : Frame) (slot number : ℕ) → Extends before now → IsTestAt now later frame slot number → IsTestAt before later frame slot number
 test-before before now later frame slot number p is = record {
   shows = subst (λ (cycles : ℕ). InRows before later (λ n rows. Tests n (span_of cycles frame) slot (rows number))) p.cycles
       (in-rows-last before now later (λ n rows. Tests n (span_of now.cycles frame) slot (rows number)) p is.shows);
   there = is.there;
+  bit = is.bit;
   new = let new = is.new in let more = longer before now p in omega (arith, new, more);
 }
 

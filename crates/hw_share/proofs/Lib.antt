@@ -1,7 +1,10 @@
+pub mod AccumulatorNets
 pub mod Choices
 pub mod ClockTests
 pub mod Counters
 pub mod Ends
+pub mod GateNets
+pub mod Gathering
 pub mod Growth
 pub mod Joins
 pub mod Multipliers

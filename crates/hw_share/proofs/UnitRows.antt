@@ -1,5 +1,5 @@
 -- What chains, multipliers and registers give together.
-use Rattle.std.proofs.Common.{◌≡◌, ℕ, ◌+◌, ◌*◌, ◌<◌, ◌≤◌, ◌||◌, inl, inr, true, List, length, All, Option, Some, None, Result, Ok, Err, IfOk, slice_get, slice_index_or, pos, ◌*ℤ◌, ap, sym, ◌∙◌, subst}
+use Rattle.std.proofs.Common.{◌≡◌, ℕ, ◌+◌, ◌*◌, ◌<◌, ◌≤◌, ◌||◌, inl, inr, true, List, length, All, Option, Some, None, slice_get, slice_index_or, pos, ◌*ℤ◌, ap, sym, ◌∙◌, subst}
 use Rattle.std.proofs.Common.{arith, refl, true≢false}
 use Rattle.std.proofs.lemmas.Bool.{cases_lt}
 use Rattle.std.proofs.lemmas.Option.{slice_get_within, get_or_from_slice_get, slice_get-get_or}
@@ -18,7 +18,7 @@ use Rattle.hw_share.specs.declared.operation.Operation.{Operation}
 use Rattle.hw_share.specs.declared.joining.Ends.{Ends}
 use Rattle.hw_share.specs.Operations.{IsOperation, CanShare, operands_of, unit_count}
 use Rattle.hw_share.specs.Serving.{Serves}
-use Rattle.hw_share.specs.Shared.{IsServed, IsPart, IsFrameOf, AreUnits, AreShared, is_unit}
+use Rattle.hw_share.specs.Shared.{IsServed, IsPart, IsFrameOf, AreUnits, AreShared, SharesUnits, is_unit}
 use Rattle.hw_lines.specs.Register.{IsHeld}
 use Rattle.hw_share.specs.inner.Parts.{IsNamed, Grows, IsChoosing, IsMultiplying, IsKeeping}
 use Rattle.hw_share.specs.inner.ChainEnds.{Offers, AreEnds, ends_at}
@@ -218,8 +218,8 @@ module _ (closed : RegisterIsClosed) (a b c d : Circuit) (operations : List Oper
     );
   }
 
-  pub all-shared : AreShared a d operations results
-  all-shared = record {
+  shares : AreShared a d operations results
+  shares = record {
     first = length b.nets;
     count = kept.size;
     served = λ k one result at there. served k one result at there;
@@ -227,6 +227,13 @@ module _ (closed : RegisterIsClosed) (a b c d : Circuit) (operations : List Oper
     parts = whole.parts;
     units = units-are;
     registers = omega (arith, whole.registers);
+  }
+
+  pub all-shared : SharesUnits a d operations (record { numbers = numbers; results = results })
+  unfolding shares
+  all-shared = record {
+    owed = shares;
+    numbers = λ unit below. made.placed unit (omega (arith, below, are.size));
   }
 
 -- the registers can be put behind the multipliers
@@ -255,11 +262,3 @@ can-keep a b c operations ends numbers high can are made = record {
   where
     mul-le : {p q m n : ℕ} → p ≤ m → q ≤ n → p * q ≤ m * n
     mul-le {p} {q} {m} {n} h k = mul-le-mul h k
-
-pub shared-part : {E : Type 0} (result : Result (List ℕ) E) → RegisterIsClosed
-    → (a b c d : Circuit) (operations : List Operation) (ends : List (Option Ends)) (numbers : List ℕ)
-    → CanShare a operations
-    → AreEnds a b operations ends (length operations) → AreMultipliers b c ends numbers (length ends) → IfOk result (λ results. AreResults c d operations numbers results (length operations))
-    → IfOk result (AreShared a d operations)
-shared-part (Ok results) closed a b c d operations ends numbers can are made kept = all-shared closed a b c d operations ends numbers results can are made kept
-shared-part (Err e) closed a b c d operations ends numbers can are made kept = tt

@@ -1,3 +1,4 @@
+pub mod Gathered
 pub mod Operations
 pub mod Serving
 pub mod Shared

@@ -17,6 +17,7 @@ use Rattle.hw_net.specs.Growing.{InRows, Appends, IsNewReg}
 use Rattle.hw_net.specs.Netlist.{HasWord}
 use Rattle.hw_net.specs.NetRows.{span_of}
 use Rattle.hw_share.specs.declared.operation.Operation.{Operation}
+use Rattle.hw_share.specs.declared.sharing.Shared.{Shared}
 use Rattle.hw_share.specs.Operations.{operands_of, unit_count}
 use Rattle.hw_share.specs.Serving.{Serves}
 
@@ -105,3 +106,10 @@ pub record AreShared (before after : Circuit) (operations : List Operation)
       → IsPart (IsFrameOf operations) net.kind
   pub units : AreUnits before after first (unit_count operations)
   pub registers : register_count after.nets ≡ register_count before.nets + length operations
+
+-- operations are served by results and Unit nets that are told by their numbers
+pub record SharesUnits (before after : Circuit) (operations : List Operation) (shared : Shared)
+    : Type 0 where
+  pub owed : AreShared before after operations shared.results
+  pub numbers : (unit : ℕ) → unit < unit_count operations
+      → slice_get shared.numbers unit ≡ Some (owed.first + unit)

@@ -2,5 +2,6 @@
 pub mod ChainEnds
 pub mod Choices
 pub mod ClockTests
+pub mod Gates
 pub mod Parts
 pub mod Steps

@@ -158,7 +158,8 @@ fn put_products(alloc: Global, net: &mut Netlist, operations: &[Operation]) -> R
     if !can_share(net, operations)? {
         return Err(Error::msg("the operations can't share"));
     }
-    Ok(units(alloc, net, operations)?)
+    let shared = units(alloc, net, operations)?;
+    Ok(shared.results)
 }
 
 /// Puts the operands of the Unit nets behind other numbers, in order.

@@ -1,8 +1,9 @@
 -- A test for a clock of a frame, and a choice by it.
-use Rattle.std.specs.Prelude.{◌≡◌, ◌≢◌, ℕ, ◌*◌, ◌<◌, ◌≤◌, pos, length}
+use Rattle.std.specs.Prelude.{◌≡◌, ◌≢◌, ℕ, ◌*◌, ◌<◌, ◌≤◌, pos, length, false}
 use Rattle.hw_net.specs.declared.netlist.Frame.{Frame}
 use Rattle.hw_net.specs.Circuit.{Circuit}
 use Rattle.hw_net.specs.Registers.{Wave, Span, Takes}
+use Rattle.hw_net.specs.Netlist.{HasWord}
 use Rattle.hw_net.specs.NetRows.{span_of}
 use Rattle.hw_net.specs.Growing.{InRows}
 use Rattle.hw_share.specs.Operations.{SameWord}
@@ -23,6 +24,7 @@ pub record IsTestAt (before after : Circuit) (frame : Frame) (slot number : ℕ)
   pub shows : InRows before after (λ n rows.
       Tests n (span_of before.cycles frame) slot (rows number))
   pub there : IsThere after number
+  pub bit : HasWord after.nets number 1 false
   pub new : length before.nets ≤ number
 
 -- both nets are there, in one word

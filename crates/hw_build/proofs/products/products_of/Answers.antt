@@ -27,13 +27,13 @@ units-requires-clause-can c =
     c.slots_differ.ensures.units c.units_are_used.ensures c.ready_fits.ensures
     diagram plan times c.gather.new.net c.gather.new.operations.items c.requires.can.designed.scheduled cycles made)
 
-both : (c : goal.After-drop-operations-2) → AreProducts c.args.design.checked.now.diagram c.args.design.plan.now (record { firsts = c.in_ok-firsts.firsts; results = c.in_ok-results.results })
+both : (c : goal.After-drop-operations-2) → AreProducts c.args.design.checked.now.diagram c.args.design.plan.now (record { firsts = c.in_ok-firsts.firsts; results = c.in_ok-shared.shared.results })
     × AddsProducts c.args.design.checked.now.diagram c.args.design.plan.now (times_for c.args.design)
     (offered_at c.args.design.checked.now.diagram c.args.operands.now) c.args.net.now c.units.new.net
-    (record { firsts = c.in_ok-firsts.firsts; results = c.in_ok-results.results })
+    (record { firsts = c.in_ok-firsts.firsts; results = c.in_ok-shared.shared.results })
 both c =
     let diagram = c.args.design.checked.now.diagram in
-    let shared = rw c.as_slice.ensures.value at c.in_ok-results.ensures in
+    let shared = rw c.as_slice.ensures.value at c.in_ok-shared.ensures.owed in
     products_put c.storing_gives_one.ensures c.operations_prepare.ensures.operations
     c.operations_prepare.ensures.types c.operations_are_served.ensures.periods c.slots_differ.ensures.units
     c.units_are_used.ensures c.edges_stand_by_port.ensures.widths
@@ -41,7 +41,7 @@ both c =
     (record { checked = c.keeps_rules.ensures.checked; ordered = c.keeps_rules.ensures.ordered })
     c.args.design.plan.now (times_for c.args.design) (offered_at diagram c.args.operands.now)
     c.args.net.now c.gather.new.net c.units.new.net c.requires.words c.gather.new.operations.items
-    (record { firsts = c.in_ok-firsts.firsts; results = c.in_ok-results.results }) c.in_ok-firsts.ensures.more
+    (record { firsts = c.in_ok-firsts.firsts; results = c.in_ok-shared.shared.results }) c.in_ok-firsts.ensures.more
     c.in_ok-firsts.ensures.firsts shared c.requires.cycles
 
 pub returns-clause-which : goal.returns-clause-which

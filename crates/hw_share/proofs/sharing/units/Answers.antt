@@ -1,6 +1,6 @@
 use Rattle.std.proofs.Common.{◌≡◌, arith}
 use Rattle.hw_share.proofs.Ready.{ends-ready}
-use Rattle.hw_share.proofs.UnitRows.{can-keep, shared-part}
+use Rattle.hw_share.proofs.UnitRows.{can-keep, all-shared}
 use Rattle.hw_share.proofs.sharing.units.Goals as goal
 
 pub multipliers-requires : goal.multipliers-requires
@@ -22,7 +22,7 @@ results_of-requires c =
 pub returns : goal.returns
 returns c =
     let made = rw c.as_slice.ensures.value at c.in_ok-numbers.ensures in
-    shared-part c.results_of.result c.register_is_closed.ensures c.args.net.now c.ends_of.new.net
+    all-shared c.register_is_closed.ensures c.args.net.now c.ends_of.new.net
     c.multipliers.new.net c.results_of.new.net c.args.operations.now c.in_ok-ends.ends.items
-    c.in_ok-numbers.numbers
-    c.requires.can c.in_ok-ends.ensures made (rw c.as_slice-2.ensures at c.results_of.ensures)
+    c.in_ok-numbers.numbers c.in_ok-results.results
+    c.requires.can c.in_ok-ends.ensures made (rw c.as_slice-2.ensures at c.in_ok-results.ensures)
