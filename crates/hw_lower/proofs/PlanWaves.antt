@@ -1,5 +1,6 @@
 -- What the nets of a plan show.
-use Rattle.std.proofs.Common.{◌≡◌, ℕ, zero, suc, ◌+◌, ◌-◌, ◌^◌, ◌<◌, ◌≤◌, ◌⊎◌, inl, inr, Contains, false, List, [], ◌∷◌, take, map, length, slice_get, slice_index_or, Option, Some, ℤ, pos, ap, sym}
+use Rattle.std.proofs.Common.{◌≡◌, ℕ, zero, suc, ◌+◌, ◌-◌, ◌^◌, ◌<◌, ◌≤◌, ◌⊎◌, inl, inr, Contains, Bool, None, false, List, [], ◌∷◌, take, map, length}
+use Rattle.std.proofs.Common.{slice_get, slice_index_or, Option, Some, ℤ, pos, ap, sym}
 use Rattle.std.proofs.Common.{◌∙◌, subst, arith, refl, length-append}
 use Rattle.std.proofs.lemmas.Bool.{cases_lt}
 use Rattle.std.proofs.lemmas.Option.{none-some, same_Some, slice_get_within, slice_get-get_or}
@@ -17,11 +18,11 @@ use Rattle.hw_net.specs.Circuit.{Circuit}
 use Rattle.hw_net.specs.Operation.{arity, given_by}
 use Rattle.hw_net.specs.Netlist.{HasWord}
 use Rattle.hw_net.specs.NetRows.{Inputs, Rows, NetShows, NetRows, operands_at}
-use Rattle.hw_net.specs.Growing.{Keeps}
+use Rattle.hw_net.specs.Growing.{InRows, Keeps}
 use Rattle.hw_lower.specs.declared.plan.Word.{Word}
 use Rattle.hw_lower.specs.declared.plan.Step.{Step}
 use Rattle.hw_lower.specs.declared.plan.Operand.{Operand}
-use Rattle.hw_lower.specs.Lowered.{AreArgs, IsLowered, IsComb, Lowers, multiply_of, values_at}
+use Rattle.hw_lower.specs.Lowered.{AreArgs, GivesOfTotals, IsLowered, IsTotalled, IsComb, Lowers, multiply_of, values_at}
 use Rattle.hw_lower.specs.inner.PlanSteps.{Numbers, Obeys, IsStep, Give, operands_of, reads_of, step_of, word_of}
 use Rattle.hw_lower.specs.inner.Spread.{AreInputs, AreArguments, OfArguments, IsInner, Spreads}
 use Rattle.hw_lower.specs.inner.PlanNets.{number_of, net_of, AreNets, CanPut}
@@ -163,23 +164,45 @@ number-stands (arg ∷ args) base (suc place) = elim (number-stands args base pl
   | inr past ↦ inr past
 ]
 
+-- the net of a step shows what the plan says of its number
+pub shows-by : (before after : Circuit) (args : List ℕ) (start steps : List Step) (types : List FxType) (multiply : Option ℕ) (P : List ℤ → ℤ → Type 0) (made : Operand)
+    → IsPutDown before after types args start steps multiply → Give steps (λ numbers. OfArguments types numbers (λ values. P values (numbers made.place)))
+    → InRows before after (λ n rows. (clock : ℕ) → clock < n → AreInRange types (values_at rows args clock) → P (values_at rows args clock) (rows (number_of args
+    (length before.nets) made.place) clock))
+shows-by before after args start steps types multiply P made down gives = record {
+  holds = λ later keeps n given rows is clock below in_range.
+      let numbers : Numbers = numbers_of args (length before.nets) rows clock in
+      let are : AreArguments types numbers (values_at rows args clock) = arguments-are types args (length before.nets) rows clock down.are_args.count in_range in
+      gives.holds numbers numbers (obeys-rows before after later types args start steps multiply down keeps n given rows is clock below are) (values_at rows args clock) are;
+}
+
+pub word-by : (before after : Circuit) (args : List ℕ) (start steps : List Step) (types : List FxType) (result : FxType) (multiply : Option ℕ) (made : Operand)
+    → IsPutDown before after types args start steps multiply → IsStep steps made → made.word ≡ word_of result
+    → HasWord after.nets (number_of args (length before.nets) made.place) (width_of result) (is_signed result)
+word-by before after args start steps types result multiply made down at word =
+    let can = can-put before types args start steps multiply down.are_args down.inputs down.spreads in
+    let has = word-at before after steps args (length steps) can down.nets made.place at.step (slice_get_within steps made.place at.step at.is) at.is in
+    subst (λ (w : Word). HasWord after.nets (number_of args (length before.nets) made.place) w.width w.signed) (at.word ∙ word) has
+
 -- the nets show what the operation gives
 pub lowered : (before after : Circuit) (args : List ℕ) (start steps : List Step) (operation : Operation)
     (made : Operand) → IsPutDown before after operation.types args start steps (multiply_of operation.op)
     → IsStep steps made → made.word ≡ word_of operation.result → Give steps (λ numbers. OfArguments operation.types numbers (λ values. OpGives operation values (numbers made.place)))
     → IsLowered before after operation args (number_of args (length before.nets) made.place)
 lowered before after args start steps operation made down at word gives = record {
-  gives = record {
-    holds = λ later keeps n given rows is clock below in_range.
-        let numbers : Numbers = numbers_of args (length before.nets) rows clock in
-        let are : AreArguments operation.types numbers (values_at rows args clock) = arguments-are operation.types args (length before.nets) rows clock down.are_args.count in_range in
-        gives.holds numbers numbers (obeys-rows before after later operation.types args start steps
-        (multiply_of operation.op) down keeps n given rows is clock below are) (values_at rows args clock) are;
-  };
-  word =
-      let can = can-put before operation.types args start steps (multiply_of operation.op) down.are_args down.inputs down.spreads in
-      let has = word-at before after steps args (length steps) can down.nets made.place at.step (slice_get_within steps made.place at.step at.is) at.is in
-      subst (λ (w : Word). HasWord after.nets (number_of args (length before.nets) made.place) w.width w.signed) (at.word ∙ word) has;
+  gives = shows-by before after args start steps operation.types (multiply_of operation.op) (OpGives operation) made down gives;
+  word = word-by before after args start steps operation.types operation.result (multiply_of operation.op) made down at word;
+  stands = number-stands args (length before.nets) made.place;
+}
+
+-- and what a Sum gives of totals
+pub totalled : (before after : Circuit) (args : List ℕ) (start steps : List Step) (operation : Operation) (full : FxType) (signs : List Bool) (types : List FxType)
+    (made : Operand) → IsPutDown before after types args start steps None
+    → IsStep steps made → made.word ≡ word_of operation.result → Give steps (λ numbers. OfArguments types numbers (λ given. GivesOfTotals operation full signs types given (numbers made.place)))
+    → IsTotalled before after operation full signs types args (number_of args (length before.nets) made.place)
+totalled before after args start steps operation full signs types made down at word gives = record {
+  gives = shows-by before after args start steps types None (GivesOfTotals operation full signs types) made down gives;
+  word = word-by before after args start steps types operation.result None made down at word;
   stands = number-stands args (length before.nets) made.place;
 }
 
@@ -201,9 +224,9 @@ comb-step net args base step op reads same kind =
 
 -- operations alone are put in, with the one Multiply
 pub lowers : (before after : Circuit) (args : List ℕ) (start steps : List Step) (operation : Operation)
-    (made : Operand) → IsPutDown before after operation.types args start steps (multiply_of operation.op)
+    (made : Operand) (types : List FxType) → IsPutDown before after types args start steps (multiply_of operation.op)
     → IsStep steps made → Lowers before after operation args
-lowers before after args start steps operation made down at = record {
+lowers before after args start steps operation made types down at = record {
   appends = down.nets.appends;
   combs = λ k past inside.
       let place : ℕ = k - length before.nets in

@@ -1,20 +1,33 @@
 -- Sums, term after term, in the word of their full type.
-use Rattle.std.proofs.Common.{◌≡◌, ℕ, zero, suc, ◌+◌, ◌^◌, ◌<◌, ◌≤◌, Bool, false, List, [], ◌∷◌, length, get_or, take, ℤ, neg_ℤ, ◌+ℤ◌, ◌-ℤ◌, refl, subst, sym, ap, ◌∙◌, arith}
+use Rattle.std.proofs.Common.{◌≡◌, ℕ, zero, suc, ◌+◌, ◌^◌, ◌<◌, ◌≤◌, Bool, false, List, [], ◌∷◌, length, get_or, take, ℤ, neg_ℤ, ◌+ℤ◌, ◌-ℤ◌, refl, subst, sym, ap, ◌∙◌, All, pos, negsuc, ◌≤ℤ◌, arith}
 use Rattle.std.specs.Prelude.{zip}
 use Rattle.std.proofs.lemmas.Int.{ints}
 use Rattle.std.proofs.lemmas.List.{take_all}
 use Rattle.std.proofs.lemmas.Slice.Zip.{length-zip}
 use Rattle.std.proofs.Math.IntN.{+ℤ_idl, +ℤ_assoc}
-use Rattle.math_num.specs.Word.{IsCongruent, IsWrapped}
+use Rattle.math_num.specs.Word.{IsCongruent, IsWord, IsWrapped}
 use Rattle.math_num.proofs.Arithmetic.{add-scaled, scaled-neg, IsCongruent-refl}
 use Rattle.fx_type.specs.declared.kind.FxType.{FxType}
 use Rattle.fx_type.specs.FxType.{InRange, is_signed, width_of, frac_of, aligned}
 use Rattle.fx_type.specs.FullType.{Terms, negated_if, IsPossibleSum, IsFullSum}
-use Rattle.dg_model.specs.Operation.{signed_sum, type_of, value_of}
+use Rattle.dg_model.specs.Operation.{AreInRange, signed_sum, type_of, value_of}
 use Rattle.hw_lower.specs.inner.PlanSteps.{Numbers}
 use Rattle.hw_lower.specs.inner.Spread.{OfArguments}
 use Rattle.math_num.proofs.Words.{wrapped-is}
-use Rattle.fx_type.proofs.Ranges.{type-word, range-word}
+use Rattle.fx_type.proofs.Ranges.{frac_bounds, type-word, range-word}
+use Rattle.fx_type.proofs.Fracs.{bound_at}
+
+-- The full type.
+
+pub full-fracs : (terms : Terms) (full : FxType) → IsFullSum terms full → (negsuc 63 ≤ℤ frac_of full) × (frac_of full ≤ℤ pos 128)
+full-fracs terms full is = frac_bounds full is.valid
+
+pub full-word : (terms : Terms) (full : FxType) → IsFullSum terms full → IsWord (width_of full) (is_signed full)
+full-word terms full is = type-word full is.valid
+
+-- no term has more bits behind the point
+pub full-above : (signs : List Bool) (types : List FxType) (full : FxType) → length signs ≡ length types → IsFullSum (zip signs types) full → All (λ type. frac_of type ≤ℤ frac_of full) types
+full-above signs types full same is k d h = bound_at (frac_of full) signs types is.frac.bound same k d h
 
 -- Congruence.
 
@@ -120,19 +133,33 @@ module _ (frac : ℤ) (signs : List Bool) (types : List FxType) (width : ℕ) (s
       ap (λ (n : ℕ). signed_sum frac (take n (zip signs types)) (take n values)) (sym next) in
       subst (λ (z : ℤ). IsWrapped z width signed r) (sym more ∙ sym at) whole
 
--- the whole sum is in the word
-pub total-is : (signs : List Bool) (types : List FxType) (full : FxType) (numbers : Numbers) (k : ℕ) (total : ℤ) → length signs ≡ length types → IsFullSum (zip signs types) full → length types ≤ k
-    → IsTotal (frac_of full) signs types (width_of full) (is_signed full) numbers k total
-    → OfArguments types numbers (λ values. total ≡ signed_sum (frac_of full) (zip signs types) values)
-total-is signs types full numbers k total same is_full past is values are =
+-- the whole sum, cut to the word
+pub total-cut : (frac : ℤ) (signs : List Bool) (types : List FxType) (width : ℕ) (signed : Bool) (numbers : Numbers) (k : ℕ) (total : ℤ) → length signs ≡ length types → length types ≤ k
+    → IsTotal frac signs types width signed numbers k total → OfArguments types numbers (λ values. IsWrapped (signed_sum frac (zip signs types) values) width signed total)
+total-cut frac signs types width signed numbers k total same past is values are =
     let terms : Terms = zip signs types in
-    let count : length terms ≤ k = omega (arith, length-zip signs types, same) in
-    let few : length values ≤ k = omega (arith, are.in_range.count) in
-    let whole : IsWrapped (signed_sum (frac_of full) terms values) (width_of full) (is_signed full) total = rw (take_all k terms count, take_all k values few) at (is values are) in
-    let range : InRange full (signed_sum (frac_of full) terms values) =
-    is_full.holds (signed_sum (frac_of full) terms values)
-    (possible (frac_of full) signs types values are.in_range.in_range are.in_range.count) in
-    wrapped-is (signed_sum (frac_of full) terms values) (width_of full) (is_signed full) total (type-word full is_full.valid) (range-word full (signed_sum (frac_of full) terms values) range) whole
+    let count : length terms ≤ k = omega (arith, length-zip signs types, same, past) in
+    let few : length values ≤ k = omega (arith, are.in_range.count, past) in
+    rw (take_all k terms count, take_all k values few) at (is values are)
+
+-- a number of the word of the full type that is the sum but for what is cut is the sum
+pub whole-is : (signs : List Bool) (types : List FxType) (full : FxType) (values : List ℤ) (total : ℤ) → length signs ≡ length types → IsFullSum (zip signs types) full → AreInRange types values
+    → IsWrapped (signed_sum (frac_of full) (zip signs types) values) (width_of full) (is_signed full) total → total ≡ signed_sum (frac_of full) (zip signs types) values
+whole-is signs types full values total same is_full in_range whole =
+    let sum : ℤ = signed_sum (frac_of full) (zip signs types) values in
+    let range : InRange full sum = is_full.holds sum (possible (frac_of full) signs types values in_range.in_range in_range.count) in
+    wrapped-is sum (width_of full) (is_signed full) total (type-word full is_full.valid) (range-word full sum range) whole
+
+-- the same where what is cut is a number that is congruent to the sum
+pub congruent-whole : (signs : List Bool) (types : List FxType) (full : FxType) (values : List ℤ) (given total : ℤ) → length signs ≡ length types → IsFullSum (zip signs types) full
+    → AreInRange types values
+    → IsWrapped given (width_of full) (is_signed full) total → IsCongruent given (signed_sum (frac_of full) (zip signs types) values) (2 ^ width_of full)
+    → total ≡ signed_sum (frac_of full) (zip signs types) values
+congruent-whole signs types full values given total same is_full in_range cut near =
+    whole-is signs types full values total same is_full in_range (record {
+      in_word = cut.in_word;
+      congruent = congruent-then total given (signed_sum (frac_of full) (zip signs types) values) (2 ^ width_of full) cut.congruent near;
+    })
 
 -- two terms, the first of which is never subtracted
 pub two-total : (k0 k1 : FxType) (negative : Bool) (full : FxType) (x0 x1 t s : ℤ) → IsFullSum ((false, k0) ∷ (negative, k1) ∷ []) full → InRange k0 x0 → InRange k1 x1

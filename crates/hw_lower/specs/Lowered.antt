@@ -1,12 +1,14 @@
 -- What a block element as nets owes (own).
 use Rattle.std.specs.Prelude.{◌≡◌, ℕ, ◌+◌, ◌<◌, ◌≤◌, ◌⊎◌, ℤ, List, map, length, Contains, slice_get, Option}
-use Rattle.std.specs.Prelude.{Some, None}
+use Rattle.std.specs.Prelude.{Some, None, Bool, All, zip, ◌^◌, ◌≤ℤ◌}
+use Rattle.math_num.specs.Word.{IsCongruent}
 use Rattle.fx_type.specs.declared.kind.FxType.{FxType}
-use Rattle.fx_type.specs.FxType.{is_signed, width_of}
+use Rattle.fx_type.specs.FxType.{IsType, is_signed, width_of, frac_of}
+use Rattle.fx_type.specs.FullType.{IsFullSum}
 use Rattle.dg_model.specs.declared.op.Op.{Op}
 use Rattle.dg_model.specs.declared.op.Op.TheVariants.{Sum, Gain, Product, Switch, Relational, Logic}
 use Rattle.dg_model.specs.declared.op.Op.TheVariants.{Convert, Pass}
-use Rattle.dg_model.specs.Operation.{Operation, AreInRange, OpGives}
+use Rattle.dg_model.specs.Operation.{Operation, AreInRange, OpGives, signed_sum}
 use Rattle.hw_net.specs.declared.netlist.Net.{Net}
 use Rattle.hw_net.specs.declared.netlist.NetOp.{NetOp}
 use Rattle.hw_net.specs.declared.netlist.NetOp.TheVariants.{Multiply}
@@ -36,6 +38,37 @@ pub record IsLowered (before after : Circuit) (operation : Operation) (args : Li
       → OpGives operation (values_at rows args clock) (rows number clock))
   pub word : HasWord after.nets number (width_of operation.result) (is_signed operation.result)
   -- it is an argument, or was put behind the nets
+  pub stands : Contains args number ⊎ (length before.nets ≤ number)
+
+-- a Sum can be put in of some of its inputs and of sums of the others, given as terms of these types
+pub record CanTotal (operation : Operation) (full : FxType) (signs : List Bool)
+    (types : List FxType) : Type 0 where
+  pub op : operation.op ≡ Sum None
+  pub is_full : IsFullSum (zip operation.signs operation.types) full
+  pub own_signs : length operation.signs ≡ length operation.types
+  pub result : IsType operation.result
+  pub signed : length signs ≡ length types
+  pub some : 1 ≤ length types
+  pub few : length types ≤ 32
+  pub valid : All IsType types
+  pub above : All (λ type. frac_of type ≤ℤ frac_of full) types
+
+-- r is what the Sum gives of any values whose exact sum is that of what is given, modulo 2 to the
+-- width of the full type
+abbrev pub GivesOfTotals : Operation → FxType → List Bool → List FxType → List ℤ → ℤ → Type 0
+GivesOfTotals operation full signs types given r =
+    (values : List ℤ) → AreInRange operation.types values
+    → IsCongruent (signed_sum (frac_of full) (zip signs types) given)
+    (signed_sum (frac_of full) (zip operation.signs operation.types) values) (2 ^ width_of full)
+    → OpGives operation values r
+
+-- as `IsLowered`, of a Sum by such terms
+pub record IsTotalled (before after : Circuit) (operation : Operation) (full : FxType)
+    (signs : List Bool) (types : List FxType) (args : List ℕ) (number : ℕ) : Type 0 where
+  pub gives : InRows before after (λ n rows. (clock : ℕ) → clock < n
+      → AreInRange types (values_at rows args clock)
+      → GivesOfTotals operation full signs types (values_at rows args clock) (rows number clock))
+  pub word : HasWord after.nets number (width_of operation.result) (is_signed operation.result)
   pub stands : Contains args number ⊎ (length before.nets ≤ number)
 
 -- the net of this number is an operation on others

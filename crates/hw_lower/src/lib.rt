@@ -46,4 +46,4 @@ mod rounding;
 mod settling;
 mod sums;
 
-pub use lowering::lower;
+pub use lowering::{lower, lower_total};

@@ -1,13 +1,13 @@
 //! The nets of a plan.
 ghost use Rattle.std.specs.Prelude.{◌≡◌, ◌≤◌, ◌<◌, length, All, IfOk, OnOk};
 ghost use Rattle.dg_model.specs.Operation.{operation_of, CanPrepare};
-ghost use Rattle.hw_lower.specs.Lowered.{AreArgs, IsLowered, Lowers};
+ghost use Rattle.hw_lower.specs.Lowered.{AreArgs, CanTotal, IsLowered, IsTotalled, Lowers};
 ghost use Rattle.hw_lower.specs.inner.PlanSteps.{reads_of};
 ghost use Rattle.hw_lower.specs.inner.Spread.{BeginsWith};
 ghost use Rattle.hw_lower.specs.inner.PlanNets.{AreNumbers, AreNets, CanPut, net_by};
 
 use crate::plan::{Plan, Step, finish, put_alone, word_of};
-use crate::planning::plan_operation;
+use crate::planning::{plan_operation, plan_total};
 use dg_model::OpCall;
 use fx_io::{OutOfMemory, Sequence, Sizes};
 use fx_type::FxType;
@@ -90,6 +90,33 @@ pub fn lower(
 {
     let mut plan = inputs_of(alloc, call.types);
     let result = plan_operation(&mut plan, call);
+    let steps = finish(plan)?;
+    let numbers = put_nets(alloc, net, steps.as_slice(), args)?;
+    Ok(numbers[result.place as usize])
+}
+
+/// Puts a Sum into the netlist, of which some inputs are given as they are, and sums of the others in
+/// the word of its full type: terms with signs and types of their own. In the rows of every later
+/// netlist that keeps these nets, the net that is told shows what the Sum gives of any values whose
+/// exact sum is that of the terms, modulo 2 to the width of the full type (`IsTotalled`). Where
+/// memory is wanting the netlist is of no more use. Source: own.
+pub fn lower_total(
+    alloc: Global,
+    net: &mut Netlist,
+    call: &OpCall,
+    full: FxType,
+    signs: &[bool],
+    types: &[FxType],
+    args: &[u32],
+) -> Result<u32, OutOfMemory>
+    requires args { AreArgs net.old types.now args.now }
+    requires can { CanTotal (operation_of call.now) full signs.now types.now }
+    ensures lowers { OnOk result (Lowers net.old net.new (operation_of call.now) args.now) }
+    ensures totalled { IfOk result (λ number. IsTotalled net.old net.new (operation_of call.now)
+        full signs.now types.now args.now number) }
+{
+    let mut plan = inputs_of(alloc, types);
+    let result = plan_total(&mut plan, call, full, signs, types);
     let steps = finish(plan)?;
     let numbers = put_nets(alloc, net, steps.as_slice(), args)?;
     Ok(numbers[result.place as usize])

@@ -1,6 +1,6 @@
 //! The plan of each operation.
 ghost use Rattle.std.specs.Prelude.{◌≡◌, ◌≤ℤ◌, ◌<◌, ◌≤◌, pos, negsuc, length, zip, MatchBool};
-ghost use Rattle.std.specs.Prelude.{Some, [], ◌∷◌, false};
+ghost use Rattle.std.specs.Prelude.{Some, None, [], ◌∷◌, false};
 ghost use Rattle.fx_type.specs.declared.kind.FxType.{FxType};
 ghost use Rattle.fx_type.specs.FxType.{IsType, InRange, frac_of};
 ghost use Rattle.fx_type.specs.FullType.{IsFullSum, IsFullProduct};
@@ -9,8 +9,8 @@ ghost use Rattle.dg_model.specs.Operation.{operation_of, without_frac, type_of, 
 ghost use Rattle.dg_model.specs.declared.op.Op.TheVariants.{Convert, Sum};
 ghost use Rattle.dg_model.specs.Operation.{signed_sum, meets, Gives, IsConverted, IsStep, OpGives};
 ghost use Rattle.hw_lower.specs.inner.PlanSteps.{IsAt, IsMade, word_of};
-ghost use Rattle.hw_lower.specs.inner.Spread.{CanPlan, OfArguments, IsPlanned, IsScaled};
-ghost use Rattle.hw_lower.specs.Lowered.{multiply_of};
+ghost use Rattle.hw_lower.specs.inner.Spread.{CanPlan, HasArguments, OfArguments, IsPlanned, IsScaled};
+ghost use Rattle.hw_lower.specs.Lowered.{CanTotal, GivesOfTotals, multiply_of};
 
 use crate::aligning::{Side, align, argument_of, side_of};
 use crate::comparing::{Branches, switch};
@@ -18,7 +18,7 @@ use crate::gates::gate;
 use crate::plan::{Operand, Plan, Word, constant, multiply, put_alone, word_of};
 use crate::relating::compare_arguments;
 use crate::settling::convert;
-use crate::sums::{add_term, sum_arguments};
+use crate::sums::{add_term, add_up, sum_arguments};
 use dg_model::{Criterion, Op, OpCall, sum_type, without_frac};
 use fx_type::FxType;
 use hw_net::NetOp;
@@ -68,6 +68,25 @@ fn plan_sum(plan: &mut Plan, call: &OpCall) -> Operand
     let full = sum_type(call.signs, call.types);
     let exact = sum_arguments(plan, call.signs, call.types, full);
     convert_to_result(plan, call, exact, full.frac())
+}
+
+/// A Sum of which some inputs are given as they are and sums of the others.
+pub fn plan_total(
+    plan: &mut Plan,
+    call: &OpCall,
+    full: FxType,
+    signs: &[bool],
+    types: &[FxType],
+) -> Operand
+    requires arguments { HasArguments plan.old types.now }
+    requires can { CanTotal (operation_of call.now) full signs.now types.now }
+    ensures { IsPlanned plan.old plan.new None (word_of call.now.result) (λ numbers.
+        OfArguments types.now numbers (λ given. GivesOfTotals (operation_of call.now) full signs.now
+        types.now given (numbers result.place))) result }
+{
+    let frac = full.frac();
+    let exact = add_up(plan, signs, types, frac, word_of(full));
+    convert_to_result(plan, call, exact, frac)
 }
 
 /// What an accumulator of a type has after one argument more: the exact sum of both, converted to

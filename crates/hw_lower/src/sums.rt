@@ -44,8 +44,21 @@ pub fn sum_arguments(plan: &mut Plan, signs: &[bool], types: &[FxType], full: Fx
         OfArguments types.now numbers (λ values. numbers result.place
         ≡ signed_sum (frac_of full) (zip signs.now types.now) values)) result }
 {
-    let word = word_of(full);
-    let frac = full.frac();
+    add_up(plan, signs, types, full.frac(), word_of(full))
+}
+
+/// The sum of the arguments with their signs, cut to a word, in a unit of which none has more bits
+/// behind the point.
+pub fn add_up(plan: &mut Plan, signs: &[bool], types: &[FxType], frac: i16, word: Word) -> Operand
+    requires terms { AreTerms plan.old signs.now types.now }
+    requires above { All (λ type. frac_of type ≤ℤ frac) types.now }
+    requires high { frac ≤ℤ pos 128 }
+    requires word { IsWord word.width word.signed }
+    ensures { IsMade plan.old plan.new word (λ numbers.
+        OfArguments types.now numbers (λ values. IsWrapped
+        (signed_sum frac (zip signs.now types.now) values)
+        word.width word.signed (numbers result.place))) result }
+{
     let first = first_term(plan, signs, types, frac, word);
     let mut total = first;
     for input in 1..types.len() {

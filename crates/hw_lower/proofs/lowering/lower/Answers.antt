@@ -49,7 +49,7 @@ pub returns-clause-lowers : goal.returns-clause-lowers
 returns-clause-lowers c =
     let here = (goal.at.returns-clause-lowers c).After-index in
     lowers c.args.net.now c.put_nets.new.net c.args.args.now c.inputs_of-plan.result.steps c.in_ok-steps.steps
-    (operation_of c.args.call.now) c.plan_operation-result.result (put_down here) (result_at here)
+    (operation_of c.args.call.now) c.plan_operation-result.result c.args.call.now.types.now (put_down here) (result_at here)
 
 pub returns-clause-lowered : goal.returns-clause-lowered
 returns-clause-lowered c =

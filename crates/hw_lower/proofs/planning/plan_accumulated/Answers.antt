@@ -1,18 +1,15 @@
-use Rattle.std.proofs.Common.{◌≡◌, ◌∷◌, [], ◌+◌, ◌<◌, ◌≤◌, ◌∙◌, ℕ, ℤ, Some, false, length, get_or, to_z, of_z, refl, sym, ap, subst, arith}
+use Rattle.std.proofs.Common.{◌≡◌, ◌+◌, ◌<◌, ◌∙◌, ℕ, ℤ, false, length, get_or, to_z, of_z, refl, sym, subst, arith}
 use Rattle.std.specs.Prelude.{zip}
 use Rattle.std.specs.Int.{w16}
-use Rattle.std.proofs.lemmas.Int.{ints, to_z-of_z}
+use Rattle.std.proofs.lemmas.Int.{to_z-of_z}
 use Rattle.math_num.specs.Word.{InWord}
-use Rattle.fx_type.specs.declared.kind.FxType.{FxType}
-use Rattle.fx_type.specs.FxType.{IsType, InRange, frac_of, is_signed, width_of}
-use Rattle.fx_type.proofs.Ranges.{InRange-zero, frac_bounds, type-word, range-word}
+use Rattle.fx_type.specs.FxType.{InRange, frac_of}
 use Rattle.dg_model.specs.declared.op.Op.{Op}
-use Rattle.dg_model.specs.Operation.{operation_of, IsAddedUp, HasArity, HasFullType, HasParameters, HasSigns, Gives, IsStep, OpGives, type_of, value_of}
+use Rattle.dg_model.specs.Operation.{operation_of, IsAddedUp, HasFullType, HasSigns, Gives, IsStep, OpGives, type_of}
 use Rattle.hw_lower.specs.declared.plan.Word.{Word}
-use Rattle.hw_lower.specs.inner.Spread.{OfArguments, argument_of}
+use Rattle.hw_lower.specs.inner.Spread.{OfArguments}
 use Rattle.hw_lower.proofs.Accumulator.{GoesOn, goes_more, goes_all, full_at}
 use Rattle.hw_lower.proofs.StepChains.{made-then, made-map}
-use Rattle.hw_lower.proofs.PlanSteps.{at-later}
 use Rattle.hw_lower.proofs.Products.{word-range}
 use Rattle.hw_lower.proofs.planning.plan_accumulated.Goals as goal
 

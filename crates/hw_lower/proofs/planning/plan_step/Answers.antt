@@ -1,15 +1,12 @@
-use Rattle.std.proofs.Common.{◌≡◌, ◌∷◌, [], ◌≤ℤ◌, ◌+ℤ◌, ◌∙◌, ℤ, false, zero, suc, to_z, of_z, refl, subst, arith}
+use Rattle.std.proofs.Common.{◌≡◌, ◌∷◌, [], ◌∙◌, ℤ, false, to_z, of_z, refl, subst, arith}
 use Rattle.std.specs.Int.{w16}
 use Rattle.std.proofs.lemmas.Int.{to_z-of_z}
-use Rattle.fx_type.specs.declared.kind.FxType.{FxType}
-use Rattle.fx_type.specs.FxType.{InRange, frac_of, is_signed, width_of}
+use Rattle.fx_type.specs.FxType.{InRange, frac_of}
 use Rattle.fx_type.specs.Conversion.{Converts}
-use Rattle.fx_type.proofs.Ranges.{frac_bounds, type-word}
-use Rattle.fx_type.proofs.Fracs.{bound_at}
 use Rattle.dg_model.specs.Operation.{operation_of, IsStep}
 use Rattle.hw_lower.proofs.StepChains.{made-then}
 use Rattle.hw_lower.proofs.PlanSteps.{at-later}
-use Rattle.hw_lower.proofs.SumTerms.{two-total}
+use Rattle.hw_lower.proofs.SumTerms.{full-fracs, full-word, full-above, two-total}
 use Rattle.hw_lower.proofs.planning.plan_step.Goals as goal
 use Rattle.hw_lower.proofs.planning.plan_step.Goals.{After-frac-frac}
 
@@ -23,9 +20,9 @@ align-total-requires c =
     rw (c.word_of-word.ensures, own_frac (goal.at.align-total-requires c).After-frac-frac) (record {
       at = c.requires.before;
       kind = c.requires.accum;
-      above = bound_at (frac_of full) (false ∷ c.args.negative ∷ []) (c.args.before.kind ∷ c.args.side.kind ∷ []) c.sum_type-full.ensures.frac.bound refl 0 c.args.before.kind (omega arith);
-      high = (frac_bounds full c.sum_type-full.ensures.valid).1;
-      word = type-word full c.sum_type-full.ensures.valid;
+      above = full-above (false ∷ c.args.negative ∷ []) (c.args.before.kind ∷ c.args.side.kind ∷ []) full refl c.sum_type-full.ensures 0 c.args.before.kind (omega arith);
+      high = (full-fracs ((false, c.args.before.kind) ∷ (c.args.negative, c.args.side.kind) ∷ []) full c.sum_type-full.ensures).1;
+      word = full-word ((false, c.args.before.kind) ∷ (c.args.negative, c.args.side.kind) ∷ []) full c.sum_type-full.ensures;
     })
 
 pub add_term-exact-requires-clause-can : goal.add_term-exact-requires-clause-can
@@ -34,9 +31,9 @@ add_term-exact-requires-clause-can c =
     rw (c.word_of-word.ensures, own_frac (goal.at.add_term-exact-requires-clause-can c).After-frac-frac) (record {
       at = at-later _ _ c.args.side.from c.align-total.ensures.grows c.requires.at;
       kind = c.requires.kind;
-      above = bound_at (frac_of full) (false ∷ c.args.negative ∷ []) (c.args.before.kind ∷ c.args.side.kind ∷ []) c.sum_type-full.ensures.frac.bound refl 1 c.args.before.kind (omega arith);
-      high = (frac_bounds full c.sum_type-full.ensures.valid).1;
-      word = type-word full c.sum_type-full.ensures.valid;
+      above = full-above (false ∷ c.args.negative ∷ []) (c.args.before.kind ∷ c.args.side.kind ∷ []) full refl c.sum_type-full.ensures 1 c.args.before.kind (omega arith);
+      high = (full-fracs ((false, c.args.before.kind) ∷ (c.args.negative, c.args.side.kind) ∷ []) full c.sum_type-full.ensures).1;
+      word = full-word ((false, c.args.before.kind) ∷ (c.args.negative, c.args.side.kind) ∷ []) full c.sum_type-full.ensures;
     })
 
 pub returns : goal.returns

@@ -5,10 +5,10 @@ use Rattle.std.proofs.lemmas.Int.{to_z-of_z}
 use Rattle.fx_type.specs.declared.kind.FxType.{FxType}
 use Rattle.fx_type.specs.FxType.{frac_of}
 use Rattle.fx_type.specs.FullType.{IsFullSum}
-use Rattle.fx_type.proofs.Ranges.{frac_bounds}
 use Rattle.dg_model.specs.Operation.{operation_of, IsConverted, signed_sum}
 use Rattle.hw_lower.specs.inner.Spread.{OfArguments}
 use Rattle.hw_lower.proofs.StepChains.{made-then}
+use Rattle.hw_lower.proofs.SumTerms.{full-fracs}
 use Rattle.hw_lower.proofs.planning.plan_sum.Goals as goal
 use Rattle.hw_lower.proofs.planning.plan_sum.Goals.{After-frac}
 
@@ -19,12 +19,12 @@ frac_is c = to_z-of_z w16 c.frac.result (record { sfits = c.frac.type_inv }) ∙
 pub convert_to_result-requires-clause-low : goal.convert_to_result-requires-clause-low
 convert_to_result-requires-clause-low c =
     let f = frac_is (goal.at.convert_to_result-requires-clause-low c).After-frac in
-    rw f (frac_bounds c.sum_type-full.result c.sum_type-full.ensures.valid).0
+    rw f (full-fracs (zip c.args.call.now.signs.now c.args.call.now.types.now) c.sum_type-full.result c.sum_type-full.ensures).0
 
 pub convert_to_result-requires-clause-high : goal.convert_to_result-requires-clause-high
 convert_to_result-requires-clause-high c =
     let f = frac_is (goal.at.convert_to_result-requires-clause-high c).After-frac in
-    rw f (frac_bounds c.sum_type-full.result c.sum_type-full.ensures.valid).1
+    rw f (full-fracs (zip c.args.call.now.signs.now c.args.call.now.types.now) c.sum_type-full.result c.sum_type-full.ensures).1
 
 pub returns : goal.returns
 returns c =
