@@ -1,5 +1,5 @@
 //! What the rule of a cell gives.
-ghost use Rattle.std.specs.Prelude.{◌≡◌, ◌≤◌, ◌+◌, pos, int_lt, length, map, take, Some, if◌then◌else◌};
+ghost use Rattle.std.specs.Prelude.{◌≡◌, ◌≤◌, ◌+◌, pos, int_lt, length, map, take, Some, if◌then◌else◌, IfSome};
 ghost use Rattle.std.specs.List.{list_any};
 ghost use Rattle.dg_model.specs.Hits.{is_hit};
 ghost use Rattle.dg_model.specs.Operation.{CanCarryOut, OpGives};
@@ -69,39 +69,58 @@ fn gather(row: &[i128], args: &[u32], inputs: &mut [i128])
 }
 
 /// What an operation gives of these inputs. Its call is put together only where something asks for it.
-fn operation_output(program: &Program, work: Work, prepared: &Prepared, inputs: &[i128]) -> i128
-    requires types { work.first + work.count ≤ length program.now.types }
-    requires signs { work.first_sign + work.signs ≤ length program.now.signs }
-    requires ready { IsPrepared prepared.now (operation_at program.now work) }
-    requires can { CanCarryOut (operation_at program.now work) inputs.now }
-    ensures { OpGives (operation_at program.now work) inputs.now result }
+fn operation_output(program: &Program, work: &Work, prepared: &Prepared, inputs: &[i128]) -> i128
+    requires types { work.now.first + work.now.count ≤ length program.now.types }
+    requires signs { work.now.first_sign + work.now.signs ≤ length program.now.signs }
+    requires ready { IsPrepared prepared.now (operation_at program.now work.now) }
+    requires can { CanCarryOut (operation_at program.now work.now) inputs.now }
+    ensures { OpGives (operation_at program.now work.now) inputs.now result }
 {
     if let Some(value) = prepared.alone(inputs) {
         return value;
     }
-    prepared.output(&call_of(program, work), inputs)
+    prepared.output(&call_of(program, *work), inputs)
+}
+
+/// What an operation of one input gives of the value of its cell, where nothing of its call is needed.
+fn output_of_one(program: &Program, work: &Work, prepared: &Prepared, row: &[i128]) -> Option<i128>
+    requires one { work.now.count ≡ 1 }
+    requires args { work.now.first + 1 ≤ length program.now.args }
+    requires ready { IsPrepared prepared.now (operation_at program.now work.now) }
+    requires can { CanCarryOut (operation_at program.now work.now)
+        (looked_at program.now (value_at row.now) work.now.first 1) }
+    ensures { IfSome result (λ value. OpGives (operation_at program.now work.now)
+        (looked_at program.now (value_at row.now) work.now.first 1) value) }
+{
+    let cell = program.args.as_slice()[work.first as usize];
+    prepared.alone(&[read(row, cell)])
 }
 
 /// What an operation gives.
 fn work(
     program: &Program,
-    work: Work,
+    work: &Work,
     prepared: &Prepared,
     row: &[i128],
     inputs: &mut [i128],
 ) -> i128
     requires inputs { 32 ≤ length inputs.old }
-    requires few { work.count ≤ 32 }
-    requires args { work.first + work.count ≤ length program.now.args }
-    requires types { work.first + work.count ≤ length program.now.types }
-    requires signs { work.first_sign + work.signs ≤ length program.now.signs }
-    requires ready { IsPrepared prepared.now (operation_at program.now work) }
-    requires can { CanCarryOut (operation_at program.now work)
-        (looked_at program.now (value_at row.now) work.first work.count) }
-    ensures { OpGives (operation_at program.now work)
-        (looked_at program.now (value_at row.now) work.first work.count) result }
+    requires few { work.now.count ≤ 32 }
+    requires args { work.now.first + work.now.count ≤ length program.now.args }
+    requires types { work.now.first + work.now.count ≤ length program.now.types }
+    requires signs { work.now.first_sign + work.now.signs ≤ length program.now.signs }
+    requires ready { IsPrepared prepared.now (operation_at program.now work.now) }
+    requires can { CanCarryOut (operation_at program.now work.now)
+        (looked_at program.now (value_at row.now) work.now.first work.now.count) }
+    ensures { OpGives (operation_at program.now work.now)
+        (looked_at program.now (value_at row.now) work.now.first work.now.count) result }
 {
     let (first, count) = (work.first as usize, work.count as usize);
+    if count == 1 {
+        if let Some(value) = output_of_one(program, work, prepared, row) {
+            return value;
+        }
+    }
     gather(row, &program.args.as_slice()[first..first + count], inputs);
     operation_output(program, work, prepared, &inputs[..count])
 }
@@ -140,7 +159,7 @@ fn read_where_on(row: &[i128], from: u32, control: u32, otherwise: i128) -> i128
 /// What the rule of a cell gives in a sample.
 pub fn give(
     program: &Program,
-    rule: Rule,
+    rule: &Rule,
     prepared: &Prepared,
     t: u64,
     row: &[i128],
@@ -149,39 +168,51 @@ pub fn give(
     inputs: &mut [i128],
 ) -> i128
     requires inputs { 32 ≤ length inputs.old }
-    requires ready { IsReadyFor program.now prepared.now rule }
-    requires can { CanGive program.now (value_at row.now) rule }
-    ensures { Gives program.now (value_at row.now) (kept_at pasts.now) numbers.now t rule result }
+    requires ready { IsReadyFor program.now prepared.now rule.now }
+    requires can { CanGive program.now (value_at row.now) rule.now }
+    ensures { Gives program.now (value_at row.now) (kept_at pasts.now) numbers.now t rule.now result }
 {
     match rule {
-        Rule::Input { column } => value_in(numbers, column),
-        Rule::Fixed { value } => value,
-        Rule::Same { from } => read(row, from),
+        Rule::Input { column } => value_in(numbers, *column),
+        Rule::Fixed { value } => *value,
+        Rule::Same { from } => read(row, *from),
         Rule::Works { work: one } => work(program, one, prepared, row, inputs),
         Rule::Above { first, count } => {
-            let (first, count) = (first as usize, count as usize);
+            let (first, count) = (*first as usize, *count as usize);
             i128::from(some_above(row, &program.args.as_slice()[first..first + count]))
         }
         Rule::Past {
             memory,
             age,
             initial,
-        } => memory_value(pasts, memory, age, initial),
+        } => memory_value(pasts, *memory, *age, *initial),
         Rule::Slower {
             memory,
             period,
             initial,
-        } => memory_value(pasts, memory, if hits(period, t) { 0 } else { 1 }, initial),
+        } => {
+            memory_value(
+                pasts,
+                *memory,
+                if hits(*period, t) { 0 } else { 1 },
+                *initial,
+            )
+        }
         Rule::Held {
             memory,
             from,
             control,
             initial,
-        } => read_where_on(row, from, control, memory_value(pasts, memory, 0, initial)),
+        } => read_where_on(
+            row,
+            *from,
+            *control,
+            memory_value(pasts, *memory, 0, *initial),
+        ),
         Rule::Reset {
             from,
             control,
             initial,
-        } => read_where_on(row, from, control, initial),
+        } => read_where_on(row, *from, *control, *initial),
     }
 }

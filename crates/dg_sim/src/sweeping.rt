@@ -58,7 +58,7 @@ pub fn sweep(
         if hits(cell.period, t) {
             row[k] = give(
                 program,
-                cell.rule,
+                &cell.rule,
                 &prepared[k],
                 t,
                 row,

@@ -6,7 +6,7 @@ use Rattle.dg_sim.specs.Program.{operation_at}
 use Rattle.dg_sim.proofs.giving.operation_output.Goals as goal
 
 pub alone-requires : goal.alone-requires
-alone-requires c = (operation_at c.args.program.now c.args.work, c.requires.ready, c.requires.can)
+alone-requires c = (operation_at c.args.program.now c.args.work.now, c.requires.ready, c.requires.can)
 
 pub output-requires-clause-prepared : goal.output-requires-clause-prepared
 output-requires-clause-prepared c = rw c.call_of.ensures c.requires.ready

@@ -16,13 +16,13 @@ looked args first count look inputs within h =
 
 pub operation_output-requires-clause-can : goal.operation_output-requires-clause-can
 operation_output-requires-clause-can c =
-    let work = c.args.work in
+    let work = c.args.work.now in
     let values = looked c.as_slice.result.now work.first work.count (value_at c.args.row.now) c.gather.new.inputs (rw c.as_slice.ensures c.requires.args) c.gather.ensures in
     rw (values, c.as_slice.ensures) c.requires.can
 
 pub returns : goal.returns
 returns c =
-    let work = c.args.work in
+    let work = c.args.work.now in
     let e = to_z-of_z w128 c.operation_output.result (record { sfits = c.operation_output.type_inv }) in
     let values = looked c.as_slice.result.now work.first work.count (value_at c.args.row.now) c.gather.new.inputs (rw c.as_slice.ensures c.requires.args) c.gather.ensures in
     let given : OpGives (operation_at c.args.program.now work) (take work.count c.gather.new.inputs) c.operation_output.result = c.operation_output.ensures in
