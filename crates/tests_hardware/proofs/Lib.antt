@@ -1,2 +1,3 @@
 mod BareNetlists
+mod GatheredSlots
 mod TestOperations

@@ -1,3 +1,4 @@
--- What tests ask, of netlists and of operations.
+-- What tests ask, of slots, netlists and operations.
+pub mod GatherTests
 pub mod NetTests
 pub mod OperationTests

@@ -1,5 +1,6 @@
 //! Rows, one after another.
 
+use crate::gathered::put_gathered;
 use crate::lines::{put_chain, put_line};
 use crate::modules::{put_items, put_module, put_spelled, tidied};
 use crate::nets::{connect, frame_of, put_label, put_net, put_output, put_port, put_sums};
@@ -76,6 +77,7 @@ fn command_of(row: &Row<'_>) -> Result<Command> {
             ("chain", Command::Parts),
             ("line", Command::Parts),
             ("share", Command::Parts),
+            ("gather", Command::Parts),
             ("put", Command::Put),
             ("remove", Command::Remove),
         ],
@@ -146,6 +148,7 @@ impl Bench {
         self.answers = match row.command {
             "chain" => put_chain(alloc, &mut self.netlist, row)?,
             "line" => put_line(alloc, &mut self.netlist, row)?,
+            "gather" => put_gathered(alloc, &mut self.netlist, row)?,
             _ => put_units(alloc, &mut self.netlist, row)?,
         };
         Ok(())

@@ -3,7 +3,7 @@
 //!
 //! Standard input has texts and rows (`tests_rows` says how they are written). There is one netlist
 //! at a time, whose nets are named by their numbers, or as `@K` by place K of the answers of the
-//! last `chain`, `line` or `share`. A WORD is `s` or `u` and a width, a FRAME its period and latency.
+//! last `chain`, `line`, `share` or `gather`. A WORD is `s` or `u` and a width, a FRAME its period and latency.
 //!
 //! | row | what it does |
 //! |---|---|
@@ -22,6 +22,7 @@
 //! | `chain NAME FROM FRAME INITIAL plain` or `.. registered` | a chain, whose uses the text has: shift, period, and how many such uses there are, each shifted by one more |
 //! | `line = FROM FRAME INITIAL plain SHIFT PERIOD` or `.. registered ..` | a chain of one use |
 //! | `share NAME` | shared multipliers; the text has of each operation its frame, slot, multiplier and operands. Behind the numbers of the products, the answers have the operands of each Unit |
+//! | `gather NAME FRAME NET` | an accumulator of what a net shows in the slots that the text has, which rise |
 //! | `module =`, `items =` | prints the netlist's module, and how many items it has |
 //! | `spelled = NET` | prints the lines of its module that give the net its value |
 //! | `slots NAME MULTIPLIERS KINDS PERIOD LEVELS START HAVE ..` | prints slots and multipliers, and the first slots of so many levels of the period, or the period that is short; the text has the kind, period and level of each operation |
@@ -38,6 +39,7 @@
 #![tactic(auto)]
 
 mod bench;
+mod gathered;
 mod lines;
 mod modules;
 mod nets;
