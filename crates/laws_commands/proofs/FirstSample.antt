@@ -4,7 +4,7 @@ use Rattle.cmd_simulate.specs.Simulating.{output_periods}
 use Rattle.dg_response.specs.Response.{output_columns}
 use Rattle.fx_tables.specs.declared.table.Column.{Column}
 use Rattle.laws_commands.specs.FirstSample.{first_sample}
-use Rattle.laws_commands.specs.Laws.{HasSampleColumns, word_column}
+use Rattle.laws_samples.specs.Columns.{HasSampleColumns, word_column}
 
 two-columns : output_columns first_sample ≡ word_column ∷ record word_column { period = 2 } ∷ []
 two-columns = refl

@@ -1,6 +1,7 @@
 -- All twelve fields of a sample are equal, where its diagram has the columns of samples.
 use Rattle.std.proofs.Common.{◌≡◌, ℕ, ◌≤◌, ◌<◌, ℤ, inl, inr, List, [], ◌∷◌, length, map, suc, None, refl, sym, ap, subst, ◌∙◌, arith}
-use Rattle.laws_commands.specs.Laws.{HasSampleColumns, SamplesAreEqual, word_column}
+use Rattle.laws_commands.specs.Laws.{SamplesAreEqual}
+use Rattle.laws_samples.specs.Columns.{HasSampleColumns, word_column}
 use Rattle.laws_commands.specs.inner.LawsBelow.{AreKnown}
 use Rattle.laws_commands.proofs.Replays.{is-accepted}
 use Rattle.laws_commands.proofs.SampleFields.{all-equal}

@@ -1,5 +1,5 @@
 -- What the program's commands say of one another, for all texts (own).
-use Rattle.std.specs.Prelude.{◌≡◌, ℕ, ◌≤◌, pos, negsuc, List, [], ◌∷◌, length}
+use Rattle.std.specs.Prelude.{◌≡◌, ℕ, ◌≤◌, List, length}
 use Rattle.dg_model.specs.declared.diagram.Diagram.{Diagram}
 use Rattle.dg_model.specs.Attributes.{attributes_of}
 use Rattle.dg_model.specs.Checked.{IsChecked}
@@ -9,13 +9,12 @@ use Rattle.cmd_generate.specs.Generated.{IsVerilogOf}
 use Rattle.cmd_replay.specs.Benched.{IsTold}
 use Rattle.cmd_replay.specs.Replayed.{CanBeReplayed, IsBadStimulus, IsReplayOf}
 use Rattle.cmd_sample.specs.Summary.{summary_text}
-use Rattle.cmd_simulate.specs.Simulating.{output_periods}
-use Rattle.dg_response.specs.Response.{input_columns, stimulus_of}
-use Rattle.fx_tables.specs.declared.table.Column.{Column}
+use Rattle.dg_response.specs.Response.{stimulus_of}
 use Rattle.fx_tables.specs.declared.table.TableCause.{TableCause}
 use Rattle.fx_top.specs.Call.{file_limit}
 use Rattle.fx_top.specs.Simulated.{CanBeSimulated, IsBadSimulation, IsSimulationOf}
 use Rattle.fx_top.specs.Summarized.{IsSummaryOf}
+use Rattle.laws_samples.specs.Columns.{HasSampleColumns}
 use Rattle.vl_ast.specs.declared.modules.Module.{Module}
 use Rattle.vl_ast.specs.Grammar.{most_items}
 use Rattle.vl_ast.specs.Spelling.{spelling}
@@ -107,16 +106,6 @@ abbrev pub SamplesAgree : Type 0
 SamplesAgree =
     (count : ℕ) (told text : List ℕ) (summary : IsSummaryOf IsTold count told text)
     → length summary.own.items ≤ most_items → told ≡ summary.response
-
--- an input of 16 bits with a number in each base sample
-abbrev pub word_column : Column
-word_column = record { low = negsuc 32767; high = pos 32767; period = 1 }
-
--- the diagram has one such input, and two outputs, the first with a number in each base sample and
--- the second in each other one
-pub record HasSampleColumns (diagram : Diagram) : Type 0 where
-  pub inputs : input_columns diagram ≡ word_column ∷ []
-  pub outputs : output_periods diagram ≡ 1 ∷ 2 ∷ []
 
 -- where the module of a sample isn't too long to be read, and its diagram has these columns, the
 -- summary ends in `equal 12 of 12`

@@ -1,7 +1,8 @@
 //! What the definitions together say. Each law is a function that does nothing.
 ghost use Rattle.laws_commands.specs.Laws.{BadSimulatedIsReplayedOfFiles, HeldModulesAreRead, SimulatedIsReplayedOfFiles, SimulationsAreReplaysOfFiles};
 ghost use Rattle.laws_commands.specs.FirstSample.{first_sample};
-ghost use Rattle.laws_commands.specs.Laws.{BadReplayedIsSimulated, BadSimulatedIsReplayed, DiagramsAreOrdered, HasSampleColumns, ReplayedIsSimulated, ReplaysAreResponses, ReplaysAreSimulations, SamplesAgree, SamplesAreEqual, SimulatedIsReplayed, SimulationsAreReplays, SimulationsAreStimulated};
+ghost use Rattle.laws_commands.specs.Laws.{BadReplayedIsSimulated, BadSimulatedIsReplayed, DiagramsAreOrdered, ReplayedIsSimulated, ReplaysAreResponses, ReplaysAreSimulations, SamplesAgree, SamplesAreEqual, SimulatedIsReplayed, SimulationsAreReplays, SimulationsAreStimulated};
+ghost use Rattle.laws_samples.specs.Columns.{HasSampleColumns};
 ghost use Rattle.laws_commands.specs.inner.LawsBelow.{AreKnown};
 
 /// What the crates below say together.

@@ -1,0 +1,6 @@
+mod Blocks
+mod Columns
+mod EdgeEnds
+mod Periods
+mod Rounds
+mod Widths
